@@ -12,3 +12,6 @@ pub mod Tokens
 pub mod Bound
 pub mod Grammar
 pub mod Space
+pub mod Promise
+pub mod Fair
+pub mod Effects
