@@ -1,0 +1,12 @@
+pub mod Splits
+pub mod Finding
+pub mod Effects
+pub mod Sound
+pub mod Parts
+pub mod Told
+pub mod Local
+pub mod Versions
+pub mod Meant
+pub mod Able
+pub mod Calm
+pub mod Numbers

@@ -1,4 +1,5 @@
 -- A system: its workers, the signals on their way, the clock, which versions are current, and names.
+use mathlib.Core.Path.{_≡_}
 use mathlib.Core.Bool.{Bool, true, false, _&&_, _||_, cond}
 use mathlib.Core.List.{List, [], _∷_, _++_}
 use mathlib.Core.Option.{Option, some, none}
@@ -111,6 +112,11 @@ on-worker s n f = with-workers s (change (s .workers) n f)
 abbrev pub gone : List Worker → ℕ → List Worker
 gone [] n = []
 gone (w ∷ ws) n = cond (eqb (w .pid) n) ws (w ∷ gone ws n)
+
+-- no two workers have one number
+abbrev pub Apart : List Worker → Type 0
+Apart [] = Unit {0}
+Apart (w ∷ ws) = (find ws (w .pid) ≡ none) × Apart ws
 
 -- a worker with one part changed
 abbrev pub set-control : Control → List Frame → Worker → Worker

@@ -1,0 +1,64 @@
+-- Workers by their numbers, after one is changed, is gone, or is new. Everything in this crate is said by `find`,
+-- so induction over the list of workers stands only here.
+use mathlib.Core.Path.{_≡_, refl, sym, ap, subst, _∙_}
+use mathlib.Core.Bool.{true, false, cond}
+use mathlib.Core.List.{List, [], _∷_, _++_}
+use mathlib.Core.Option.{Option, some, none, Option·map}
+use Prim.Native.Nat.{ℕ}
+use lib.Dec.{eqb, T}
+use Rattle.meaning.specs.Basics.{opt}
+use Rattle.meaning.specs.System.{Worker, find, change, gone, Apart}
+use Rattle.meaning.proofs.Splits.{cond-all, cond-true, cond-false, bool-all, some-is, none-some, eqb-no, eqb-yes, eqb-is, eqb-isnt}
+
+-- a worker of a number, after one is changed, is gone, or is new
+abbrev pub Keeps : (Worker → Worker) → Type 0
+Keeps f = (w : Worker) → f w .pid ≡ w .pid
+
+pub find-pid : (ws : List Worker) (n : ℕ) (w : Worker) → find ws n ≡ some w → w .pid ≡ n
+find-pid [] n w e = absurd (subst (λ (o : Option Worker). T (opt o true (λ x. false))) e tt)
+find-pid (v ∷ ws) n w e = cond-all (λ o. o ≡ some w → w .pid ≡ n) (eqb (v .pid) n) (some v) (find ws n) (λ h e. subst (λ (x : Worker). x .pid ≡ n) (some-is e) (eqb-is (v .pid) n h)) (λ h e. find-pid ws n w e) e
+
+pub find-change-other : (ws : List Worker) (n q : ℕ) (f : Worker → Worker) → Keeps f → (q ≡ n → ⊥) → find (change ws n f) q ≡ find ws q
+find-change-other [] n q f kp h = refl
+find-change-other (w ∷ ws) n q f kp h = bool-all (λ b. find (cond b (f w ∷ ws) (w ∷ change ws n f)) q ≡ cond (eqb (w .pid) q) (some w) (find ws q)) (eqb (w .pid) n)
+  (λ e. let p = eqb-is (w .pid) n e in let a = eqb-no (f w .pid) q (λ r. h (sym r ∙ kp w ∙ p)) in let b = eqb-no (w .pid) q (λ r. h (sym r ∙ p)) in cond-false (eqb (f w .pid) q) (some (f w)) (find ws q) a ∙ sym (cond-false (eqb (w .pid) q) (some w) (find ws q) b))
+  (λ e. ap (λ o. cond (eqb (w .pid) q) (some w) o) (find-change-other ws n q f kp h))
+pub find-change-same : (ws : List Worker) (n : ℕ) (f : Worker → Worker) → Keeps f → find (change ws n f) n ≡ Option·map f (find ws n)
+find-change-same [] n f kp = refl
+find-change-same (w ∷ ws) n f kp = bool-all (λ b. eqb (w .pid) n ≡ b → find (cond b (f w ∷ ws) (w ∷ change ws n f)) n ≡ Option·map f (cond b (some w) (find ws n))) (eqb (w .pid) n)
+  (λ e h. cond-true (eqb (f w .pid) n) (some (f w)) (find ws n) (eqb-yes (f w .pid) n (kp w ∙ eqb-is (w .pid) n e)))
+  (λ e h. cond-false (eqb (w .pid) n) (some w) (find (change ws n f) n) e ∙ find-change-same ws n f kp) refl
+pub find-gone-other : (ws : List Worker) (n q : ℕ) → (q ≡ n → ⊥) → find (gone ws n) q ≡ find ws q
+find-gone-other [] n q h = refl
+find-gone-other (w ∷ ws) n q h = bool-all (λ b. find (cond b ws (w ∷ gone ws n)) q ≡ cond (eqb (w .pid) q) (some w) (find ws q)) (eqb (w .pid) n)
+  (λ e. sym (cond-false (eqb (w .pid) q) (some w) (find ws q) (eqb-no (w .pid) q (λ r. h (sym r ∙ eqb-is (w .pid) n e)))))
+  (λ e. ap (λ o. cond (eqb (w .pid) q) (some w) o) (find-gone-other ws n q h))
+pub find-gone-same : (ws : List Worker) (n : ℕ) → Apart ws → find (gone ws n) n ≡ none
+find-gone-same [] n u = refl
+find-gone-same (w ∷ ws) n u = bool-all (λ b. find (cond b ws (w ∷ gone ws n)) n ≡ none) (eqb (w .pid) n)
+  (λ e. subst (λ (x : ℕ). find ws x ≡ none) (eqb-is (w .pid) n e) (u .0))
+  (λ e. cond-false (eqb (w .pid) n) (some w) (find (gone ws n) n) e ∙ find-gone-same ws n (u .1))
+pub find-gone-none : (ws : List Worker) (n q : ℕ) → find ws q ≡ none → Apart ws → find (gone ws n) q ≡ none
+find-gone-none ws n q e u = bool-all (λ b. find (gone ws n) q ≡ none) (eqb q n) (λ h. subst (λ (x : ℕ). find (gone ws n) x ≡ none) (sym (eqb-is q n h)) (find-gone-same ws n u)) (λ h. find-gone-other ws n q (eqb-isnt q n h) ∙ e)
+-- a new one at the end
+pub find-new-old : (ws : List Worker) (v w : Worker) (q : ℕ) → find ws q ≡ some w → find (ws ++ (v ∷ [])) q ≡ some w
+find-new-old [] v w q e = absurd (none-some e)
+find-new-old (x ∷ ws) v w q e = bool-all (λ b. cond b (some x) (find ws q) ≡ some w → cond b (some x) (find (ws ++ (v ∷ [])) q) ≡ some w) (eqb (x .pid) q) (λ h e. e) (λ h e. find-new-old ws v w q e) e
+pub find-new : (ws : List Worker) (v : Worker) (q : ℕ) → find ws q ≡ none → find (ws ++ (v ∷ [])) q ≡ cond (eqb (v .pid) q) (some v) none
+find-new [] v q e = refl
+find-new (x ∷ ws) v q e = bool-all (λ b. cond b (some x) (find ws q) ≡ none → cond b (some x) (find (ws ++ (v ∷ [])) q) ≡ cond (eqb (v .pid) q) (some v) none) (eqb (x .pid) q) (λ h e. absurd (none-some (sym e))) (λ h e. find-new ws v q e) e
+-- numbers stay apart
+pub apart-change : (ws : List Worker) (n : ℕ) (f : Worker → Worker) → Keeps f → Apart ws → Apart (change ws n f)
+apart-change [] n f kp u = tt
+apart-change (w ∷ ws) n f kp u = bool-all (λ b. eqb (w .pid) n ≡ b → Apart (cond b (f w ∷ ws) (w ∷ change ws n f))) (eqb (w .pid) n)
+  (λ e h. (subst (λ (x : ℕ). find ws x ≡ none) (sym (kp w)) (u .0), u .1))
+  (λ e h. (find-change-other ws n (w .pid) f kp (eqb-isnt (w .pid) n e) ∙ u .0, apart-change ws n f kp (u .1))) refl
+pub apart-gone : (ws : List Worker) (n : ℕ) → Apart ws → Apart (gone ws n)
+apart-gone [] n u = tt
+apart-gone (w ∷ ws) n u = bool-all (λ b. eqb (w .pid) n ≡ b → Apart (cond b ws (w ∷ gone ws n))) (eqb (w .pid) n)
+  (λ e h. u .1)
+  (λ e h. (find-gone-other ws n (w .pid) (eqb-isnt (w .pid) n e) ∙ u .0, apart-gone ws n (u .1))) refl
+pub apart-new : (ws : List Worker) (v : Worker) → find ws (v .pid) ≡ none → Apart ws → Apart (ws ++ (v ∷ []))
+apart-new [] v e u = (refl, tt)
+apart-new (w ∷ ws) v e u = cond-all (λ o. o ≡ none → Apart (w ∷ (ws ++ (v ∷ [])))) (eqb (w .pid) (v .pid)) (some w) (find ws (v .pid)) (λ h e. absurd (none-some (sym e)))
+  (λ h e. (find-new ws v (w .pid) (u .0) ∙ cond-false (eqb (v .pid) (w .pid)) (some v) none (eqb-no (v .pid) (w .pid) (λ r. eqb-isnt (w .pid) (v .pid) h (sym r))), apart-new ws v e (u .1))) e

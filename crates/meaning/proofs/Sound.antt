@@ -1,0 +1,209 @@
+-- Numbers are apart and below the next; links go both ways: kept by every move.
+use mathlib.Core.Path.{_≡_, refl, sym, ap, subst, _∙_}
+use mathlib.Core.Logic.{_⊎_, inl, inr}
+use mathlib.Core.Bool.{Bool, true, false, _||_, cond}
+use mathlib.Core.List.{List, [], _∷_, _++_}
+use mathlib.Core.Option.{Option, some, none, Option·map}
+use Prim.Native.Nat.{ℕ, _+_, _<_}
+use native.Mathlib.Omega.{arith}
+use lib.Dec.{eqb, ltb}
+use Rattle.meaning.specs.Basics.{opt, Name}
+use Rattle.meaning.specs.Atoms.{a-old, a-normal}
+use Rattle.meaning.specs.Syntax.{Program}
+use Rattle.meaning.specs.Values.{v-atom, sameV}
+use Rattle.meaning.specs.System.{cut-link, Scope, Control, Frame, Worker, Signal, System, with-signals, find, change, on-worker, set-control, set-mail, add-mail, set-links, set-traps, among, without, add-link, gone, ended, old, end-old, with-version, with-clock, Apart, swapped}
+use Rattle.meaning.specs.Turns.{Outcome, turn-of}
+use Rattle.meaning.specs.Moves.{Move, turn, signal, tick, Result, is, not-allowed, no-meaning, settle, take-signal, deliver, first-time, move, moves, on-is}
+use Rattle.meaning.specs.Effects.{Effect, nothing, sent, spawned, linked-gone, exited, linked, trapped, showed, named, took, Turned, turn-goes, turn-ends, turn-swaps, turn-swapped-out, turn-stuck}
+use Rattle.meaning.proofs.Splits.{no-clash, cond-all, opt-all, bool-all, some-is, none-some, eqb-no, eqb-yes, eqb-is, eqb-isnt, OnSome}
+use Rattle.meaning.proofs.Finding.{Keeps, find-pid, find-change-other, find-change-same, find-gone-other, find-gone-same, find-new-old, find-new, apart-change, apart-gone, apart-new}
+use Rattle.meaning.proofs.Effects.{turn-view}
+
+-- what holds of every system that a result is; N stands for having no meaning
+abbrev pub OnR : (System → Type 0) → Type 0 → Result → Type 0
+OnR P N (is s) = P s
+OnR P N not-allowed = Unit {0}
+OnR P N no-meaning = N
+abbrev pub OnIs : (System → Type 0) → Result → Type 0
+OnIs P r = OnR P (Unit {0}) r
+pub on-is-of : (P : System → Type 0) (r : Result) (s : System) → OnIs P r → r ≡ is s → P s
+on-is-of P r s h e = subst (OnIs P) e h
+-- along moves
+pub along : (g : Program) (P : System → Type 0) (N : Type 0) → ((s : System) (m : Move) → P s → OnR P N (move g s m)) → (l : List Move) (s : System) → P s → OnR P N (moves g s l)
+along g P N step [] s h = h
+along g P N step (m ∷ l) s h = go (move g s m) (step s m h) (λ t p. along g P N step l t p)
+  where
+    go : (r : Result) → OnR P N r → ((t : System) → P t → OnR P N (moves g t l)) → OnR P N (on-is r (λ t. moves g t l))
+    go (is t) p f = f t p
+    go not-allowed p f = tt
+    go no-meaning p f = p
+pub on-both : (P Q : System → Type 0) (M N : Type 0) (r : Result) → OnR P M r → OnR Q N r → OnR (λ t. P t × Q t) (M × N) r
+on-both P Q M N (is t) p q = (p, q)
+on-both P Q M N not-allowed p q = tt
+on-both P Q M N no-meaning p q = (p, q)
+
+-- membership
+pub among-add : (l x : ℕ) (ls : List ℕ) → among l (ls ++ (x ∷ [])) ≡ (among l ls || eqb l x)
+among-add l x [] = bool-all (λ b. (b || false) ≡ (false || b)) (eqb l x) (λ h. refl) (λ h. refl)
+among-add l x (y ∷ ls) = bool-all (λ b. (b || among l (ls ++ (x ∷ []))) ≡ ((b || among l ls) || eqb l x)) (eqb l y) (λ h. refl) (λ h. among-add l x ls)
+pub among-without : (l x : ℕ) (ls : List ℕ) → (l ≡ x → ⊥) → among l (without x ls) ≡ among l ls
+among-without l x [] h = refl
+among-without l x (y ∷ ls) h = bool-all (λ b. eqb x y ≡ b → among l (cond b (without x ls) (y ∷ without x ls)) ≡ (eqb l y || among l ls)) (eqb x y)
+  (λ e r. among-without l x ls h ∙ ap (λ (b : Bool). b || among l ls) (sym (eqb-no l y (λ q. h (q ∙ sym (eqb-is x y e))))))
+  (λ e r. ap (λ (b : Bool). eqb l y || b) (among-without l x ls h)) refl
+pub among-gone : (x : ℕ) (ls : List ℕ) → among x (without x ls) ≡ false
+among-gone x [] = refl
+among-gone x (y ∷ ls) = bool-all (λ b. eqb x y ≡ b → among x (cond b (without x ls) (y ∷ without x ls)) ≡ false) (eqb x y)
+  (λ e r. among-gone x ls)
+  (λ e r. ap (λ (b : Bool). b || among x (without x ls)) e ∙ among-gone x ls) refl
+-- what add-link does to links
+pub add-link-keeps : (n : ℕ) → Keeps (add-link n)
+add-link-keeps n w = cond-all (λ x. x .pid ≡ w .pid) (among n (w .links)) w (set-links (w .links ++ (n ∷ [])) w) (λ h. refl) (λ h. refl)
+pub add-link-in : (l n : ℕ) (w : Worker) → among l (add-link n w .links) ≡ true → (among l (w .links) ≡ true) ⊎ (l ≡ n)
+add-link-in l n w = cond-all (λ x. among l (x .links) ≡ true → (among l (w .links) ≡ true) ⊎ (l ≡ n)) (among n (w .links)) w (set-links (w .links ++ (n ∷ [])) w) (λ h e. inl e)
+  (λ h e. bool-all (λ b. (b || eqb l n) ≡ true → (b ≡ true) ⊎ (l ≡ n)) (among l (w .links)) (λ p q. inl refl) (λ p q. inr (eqb-is l n q)) (sym (among-add l n (w .links)) ∙ e))
+pub add-link-more : (l n : ℕ) (w : Worker) → among l (w .links) ≡ true → among l (add-link n w .links) ≡ true
+add-link-more l n w a = cond-all (λ x. among l (x .links) ≡ true) (among n (w .links)) w (set-links (w .links ++ (n ∷ [])) w) (λ h. a) (λ h. among-add l n (w .links) ∙ ap (λ (b : Bool). b || eqb l n) a)
+pub add-link-new : (n : ℕ) (w : Worker) → among n (add-link n w .links) ≡ true
+add-link-new n w = cond-all (λ x. among n (x .links) ≡ true) (among n (w .links)) w (set-links (w .links ++ (n ∷ [])) w) (λ h. h) (λ h. among-add n n (w .links) ∙ ap (λ (b : Bool). b || eqb n n) h ∙ eqb-yes n n refl)
+
+-- where a worker comes from after a change: the same one, or the one changed
+pub back : (ws : List Worker) (n : ℕ) (f : Worker → Worker) → Keeps f → (q : ℕ) (y : Worker) → find (change ws n f) q ≡ some y → (x : Worker) × (find ws q ≡ some x) × (((q ≡ n → ⊥) × (y ≡ x)) ⊎ ((q ≡ n) × (y ≡ f x)))
+back ws n f kp q y e = bool-all (λ b. (x : Worker) × (find ws q ≡ some x) × (((q ≡ n → ⊥) × (y ≡ x)) ⊎ ((q ≡ n) × (y ≡ f x)))) (eqb q n)
+  (λ h. let p = eqb-is q n h in of-map (find ws q) refl (sym (subst (λ (z : ℕ). find (change ws n f) z ≡ Option·map f (find ws z)) (sym p) (find-change-same ws n f kp)) ∙ e) p)
+  (λ h. (y, sym (find-change-other ws n q f kp (eqb-isnt q n h)) ∙ e, inl (eqb-isnt q n h, refl)))
+  where
+    of-map : (o : Option Worker) → find ws q ≡ o → Option·map f o ≡ some y → q ≡ n → (x : Worker) × (find ws q ≡ some x) × (((q ≡ n → ⊥) × (y ≡ x)) ⊎ ((q ≡ n) × (y ≡ f x)))
+    of-map none r e p = absurd (none-some e)
+    of-map (some x) r e p = (x, r, inr (p, sym (some-is e)))
+
+-- the invariant, of the workers and the next number
+pub record Sound (ws : List Worker) (next : ℕ) : Type 0 where
+  pub apart : Apart ws
+  pub below : (q : ℕ) (x : Worker) → find ws q ≡ some x → q < next
+  pub links-below : (q l : ℕ) (x : Worker) → find ws q ≡ some x → among l (x .links) ≡ true → l < next
+  pub both : (p q : ℕ) (x y : Worker) → find ws p ≡ some x → find ws q ≡ some y → among q (x .links) ≡ true → among p (y .links) ≡ true
+abbrev pub SoundS : System → Type 0
+SoundS s = Sound (s .workers) (s .next)
+pub same-links : (ws : List Worker) (n k : ℕ) (f : Worker → Worker) → Keeps f → ((w : Worker) → f w .links ≡ w .links) → Sound ws k → Sound (change ws n f) k
+same-links ws n k f kp kl h = record {
+    apart = apart-change ws n f kp (h .apart);
+    below = λ q y e. let r = back ws n f kp q y e in h .below q (r .0) (r .1);
+    links-below = λ q l y e a. let r = was q y e in h .links-below q l (r .0) (r .1) (ap (among l) (sym (r .2)) ∙ a);
+    both = λ p q x y e d a. let r = was p x e in let t = was q y d in ap (among p) (t .2) ∙ h .both p q (r .0) (t .0) (r .1) (t .1) (ap (among q) (sym (r .2)) ∙ a) }
+  where
+    was : (q : ℕ) (y : Worker) → find (change ws n f) q ≡ some y → (x : Worker) × (find ws q ≡ some x) × (y .links ≡ x .links)
+    was q y e = let r = back ws n f kp q y e in (r .0, r .1, elim (r .2) [ inl a ↦ ap (λ (z : Worker). z .links) (a .1) | inr a ↦ ap (λ (z : Worker). z .links) (a .1) ∙ kl (r .0) ])
+-- fewer workers
+abbrev pub Sub : List Worker → List Worker → Type 0
+Sub vs ws = (q : ℕ) (y : Worker) → find vs q ≡ some y → find ws q ≡ some y
+pub fewer : (vs ws : List Worker) (k : ℕ) → Apart vs → Sub vs ws → Sound ws k → Sound vs k
+fewer vs ws k u sub h = record {
+    apart = u;
+    below = λ q x e. h .below q x (sub q x e);
+    links-below = λ q l x e a. h .links-below q l x (sub q x e) a;
+    both = λ p q x y e d a. h .both p q x y (sub p x e) (sub q y d) a }
+pub gone-sub : (ws : List Worker) (n : ℕ) → Apart ws → Sub (gone ws n) ws
+gone-sub ws n u q y e = bool-all (λ b. find ws q ≡ some y) (eqb q n)
+  (λ h. absurd (none-some (sym (subst (λ (z : ℕ). find (gone ws n) z ≡ none) (sym (eqb-is q n h)) (find-gone-same ws n u)) ∙ e)))
+  (λ h. sym (find-gone-other ws n q (eqb-isnt q n h)) ∙ e)
+pub gone-sound : (ws : List Worker) (n k : ℕ) → Sound ws k → Sound (gone ws n) k
+gone-sound ws n k h = fewer (gone ws n) ws k (apart-gone ws n (h .apart)) (gone-sub ws n (h .apart)) h
+pub new-back : (ws : List Worker) (v : Worker) (q : ℕ) (x : Worker) → find (ws ++ (v ∷ [])) q ≡ some x → (find ws q ≡ some x) ⊎ ((q ≡ v .pid) × (x ≡ v))
+new-back ws v q x e = go (find ws q) refl
+  where
+    go : (o : Option Worker) → find ws q ≡ o → (find ws q ≡ some x) ⊎ ((q ≡ v .pid) × (x ≡ v))
+    go (some y) r = inl (r ∙ sym (find-new-old ws v y q r) ∙ e)
+    go none r = bool-all (λ b. eqb (v .pid) q ≡ b → cond b (some v) none ≡ some x → (find ws q ≡ some x) ⊎ ((q ≡ v .pid) × (x ≡ v))) (eqb (v .pid) q) (λ t d c. inr (sym (eqb-is (v .pid) q d), sym (some-is c))) (λ t d c. absurd (none-some c)) refl (sym (find-new ws v q r) ∙ e)
+-- a new worker, with the next number and no links
+pub new-sound : (ws : List Worker) (k : ℕ) (v : Worker) → v .pid ≡ k → v .links ≡ [] → Sound ws k → Sound (ws ++ (v ∷ [])) (k + 1)
+new-sound ws k v p n h = record {
+    apart = apart-new ws v (subst (λ (z : ℕ). find ws z ≡ none) (sym p) free) (h .apart);
+    below = λ q x e. elim (was q x e) [ inl a ↦ let z = h .below q x a in omega arith | inr a ↦ let z = a .0 in omega arith ];
+    links-below = λ q l x e a. elim (was q x e) [ inl b ↦ let z = h .links-below q l x b a in omega arith | inr b ↦ absurd (no-links l x (b .1) a) ];
+    both = λ q r x y e d a. elim (was q x e) [ inl b ↦ elim (was r y d) [ inl c ↦ h .both q r x y b c a | inr c ↦ let z = h .links-below q r x b a in let z2 = c .0 in absurd (omega arith) ] | inr b ↦ absurd (no-links r x (b .1) a) ] }
+  where
+    free : find ws k ≡ none
+    free = go (find ws k) refl
+      where
+        go : (o : Option Worker) → find ws k ≡ o → find ws k ≡ none
+        go none e = e
+        go (some x) e = let z = h .below k x e in absurd (omega arith)
+    no-links : (l : ℕ) (x : Worker) → x ≡ v → among l (x .links) ≡ true → ⊥
+    no-links l x e a = no-clash a (ap (λ (z : Worker). among l (z .links)) e ∙ ap (among l) n)
+    was : (q : ℕ) (x : Worker) → find (ws ++ (v ∷ [])) q ≡ some x → (find ws q ≡ some x) ⊎ ((q ≡ k) × (x ≡ v))
+    was q x e = elim (new-back ws v q x e) [ inl a ↦ inl a | inr a ↦ inr (a .0 ∙ p, a .1) ]
+-- one side of a link made
+add-step : (ws : List Worker) (n a p : ℕ) (y : Worker) → find (change ws n (add-link a)) p ≡ some y → (x : Worker) × (find ws p ≡ some x) × ((l : ℕ) → among l (y .links) ≡ true → (among l (x .links) ≡ true) ⊎ ((p ≡ n) × (l ≡ a))) × ((l : ℕ) → among l (x .links) ≡ true → among l (y .links) ≡ true) × (p ≡ n → among a (y .links) ≡ true)
+add-step ws n a p y e = let r = back ws n (add-link a) (add-link-keeps a) p y e in go (r .0) (r .1) (r .2)
+  where
+    go : (x : Worker) → find ws p ≡ some x → ((p ≡ n → ⊥) × (y ≡ x)) ⊎ ((p ≡ n) × (y ≡ add-link a x)) → (x : Worker) × (find ws p ≡ some x) × ((l : ℕ) → among l (y .links) ≡ true → (among l (x .links) ≡ true) ⊎ ((p ≡ n) × (l ≡ a))) × ((l : ℕ) → among l (x .links) ≡ true → among l (y .links) ≡ true) × (p ≡ n → among a (y .links) ≡ true)
+    go x d (inl h) = (x, d, λ l b. inl (subst (λ (z : Worker). among l (z .links) ≡ true) (h .1) b), λ l b. subst (λ (z : Worker). among l (z .links) ≡ true) (sym (h .1)) b, λ b. absurd (h .0 b))
+    go x d (inr h) = (x, d, λ l b. elim (add-link-in l a x (subst (λ (z : Worker). among l (z .links) ≡ true) (h .1) b)) [ inl c ↦ inl c | inr c ↦ inr (h .0, c) ], λ l b. subst (λ (z : Worker). among l (z .links) ≡ true) (sym (h .1)) (add-link-more l a x b), λ b. subst (λ (z : Worker). among a (z .links) ≡ true) (sym (h .1)) (add-link-new a x))
+pub link-sound : (ws : List Worker) (me q k : ℕ) (u v : Worker) → find ws me ≡ some u → find ws q ≡ some v → Sound ws k → Sound (change (change ws me (add-link q)) q (add-link me)) k
+link-sound ws me q k u v fu fv h = record {
+    apart = apart-change (change ws me (add-link q)) q (add-link me) (add-link-keeps me) (apart-change ws me (add-link q) (add-link-keeps q) (h .apart));
+    below = λ p y e. let r = was p y e in h .below p (r .0) (r .1);
+    links-below = λ p l y e a. let r = was p y e in elim (r .2 l a) [ inl b ↦ h .links-below p l (r .0) (r .1) b | inr b ↦ elim b [ inl c ↦ subst (λ (z : ℕ). z < k) (sym (c .1)) (h .below q v fv) | inr c ↦ subst (λ (z : ℕ). z < k) (sym (c .1)) (h .below me u fu) ] ];
+    both = λ p r x y e d a. let i = was p x e in let o = was r y d in elim (i .2 r a) [
+        inl b ↦ o .3 p (h .both p r (i .0) (o .0) (i .1) (o .1) b)
+      | inr b ↦ elim b [ inl c ↦ subst (λ (z : ℕ). among z (y .links) ≡ true) (sym (c .0)) (o .5 (c .1)) | inr c ↦ subst (λ (z : ℕ). among z (y .links) ≡ true) (sym (c .0)) (o .4 (c .1)) ] ] }
+  where
+    was : (p : ℕ) (y : Worker) → find (change (change ws me (add-link q)) q (add-link me)) p ≡ some y → (x : Worker) × (find ws p ≡ some x) × ((l : ℕ) → among l (y .links) ≡ true → (among l (x .links) ≡ true) ⊎ (((p ≡ me) × (l ≡ q)) ⊎ ((p ≡ q) × (l ≡ me)))) × ((l : ℕ) → among l (x .links) ≡ true → among l (y .links) ≡ true) × (p ≡ me → among q (y .links) ≡ true) × (p ≡ q → among me (y .links) ≡ true)
+    was p y e = let i = add-step (change ws me (add-link q)) q me p y e in let o = add-step ws me q p (i .0) (i .1) in
+      (o .0, o .1, λ l a. elim (i .2 l a) [ inl b ↦ elim (o .2 l b) [ inl c ↦ inl c | inr c ↦ inr (inl c) ] | inr b ↦ inr (inr b) ], λ l a. i .3 l (o .3 l a), λ a. i .3 q (o .4 a), λ a. i .4 a)
+-- one side of a link taken away
+cut-step : (ws : List Worker) (n a p : ℕ) (y : Worker) → find (change ws n (cut-link a)) p ≡ some y → (x : Worker) × (find ws p ≡ some x) × ((l : ℕ) → among l (y .links) ≡ true → (among l (x .links) ≡ true) × (p ≡ n → l ≡ a → ⊥)) × ((l : ℕ) → among l (x .links) ≡ true → (p ≡ n → l ≡ a → ⊥) → among l (y .links) ≡ true)
+cut-step ws n a p y e = let r = back ws n (cut-link a) (λ w. refl) p y e in go (r .0) (r .1) (r .2)
+  where
+    go : (x : Worker) → find ws p ≡ some x → ((p ≡ n → ⊥) × (y ≡ x)) ⊎ ((p ≡ n) × (y ≡ cut-link a x)) → (x : Worker) × (find ws p ≡ some x) × ((l : ℕ) → among l (y .links) ≡ true → (among l (x .links) ≡ true) × (p ≡ n → l ≡ a → ⊥)) × ((l : ℕ) → among l (x .links) ≡ true → (p ≡ n → l ≡ a → ⊥) → among l (y .links) ≡ true)
+    go x d (inl h) = (x, d, λ l b. (subst (λ (z : Worker). among l (z .links) ≡ true) (h .1) b, λ c e. h .0 c), λ l b c. subst (λ (z : Worker). among l (z .links) ≡ true) (sym (h .1)) b)
+    go x d (inr h) = (x, d, λ l b. let b2 = subst (λ (z : Worker). among l (z .links) ≡ true) (h .1) b in let ne : l ≡ a → ⊥ = λ r. no-clash b2 (subst (λ (z : ℕ). among z (without a (x .links)) ≡ false) (sym r) (among-gone a (x .links))) in (sym (among-without l a (x .links) ne) ∙ b2, λ c r. ne r), λ l b c. subst (λ (z : Worker). among l (z .links) ≡ true) (sym (h .1)) (among-without l a (x .links) (c (h .0)) ∙ b))
+pub cut-sound : (ws : List Worker) (a b k : ℕ) → Sound ws k → Sound (change (change ws a (cut-link b)) b (cut-link a)) k
+cut-sound ws a b k h = record {
+    apart = apart-change (change ws a (cut-link b)) b (cut-link a) (λ w. refl) (apart-change ws a (cut-link b) (λ w. refl) (h .apart));
+    below = λ p y e. let r = was p y e in h .below p (r .0) (r .1);
+    links-below = λ p l y e m. let r = was p y e in h .links-below p l (r .0) (r .1) (r .2 l m .0);
+    both = λ p r x y e d m. let i = was p x e in let o = was r y d in let t = i .2 r m in o .3 p (h .both p r (i .0) (o .0) (i .1) (o .1) (t .0)) (λ c f. t .2 f c) (λ c f. t .1 f c) }
+  where
+    was : (p : ℕ) (y : Worker) → find (change (change ws a (cut-link b)) b (cut-link a)) p ≡ some y → (x : Worker) × (find ws p ≡ some x) × ((l : ℕ) → among l (y .links) ≡ true → (among l (x .links) ≡ true) × (p ≡ a → l ≡ b → ⊥) × (p ≡ b → l ≡ a → ⊥)) × ((l : ℕ) → among l (x .links) ≡ true → (p ≡ a → l ≡ b → ⊥) → (p ≡ b → l ≡ a → ⊥) → among l (y .links) ≡ true)
+    was p y e = let i = cut-step (change ws a (cut-link b)) b a p y e in let o = cut-step ws a b p (i .0) (i .1) in
+      (o .0, o .1, λ l m. let u = i .2 l m in let v = o .2 l (u .0) in (v .0, v .1, u .1), λ l m c d. i .3 l (o .3 l m c) d)
+
+-- each thing that a turn does keeps it
+pub did-sound : (g : Program) (s : System) (w : Scope) (me : ℕ) (u : Worker) (t : System) → find (s .workers) me ≡ some u → Effect g s w me t → SoundS s → SoundS t
+did-sound g s w me u t e nothing h = h
+did-sound g s w me u t e (sent q v) h = same-links (s .workers) q (s .next) (add-mail v) (λ x. refl) (λ x. refl) h
+did-sound g s w me u t e (spawned c f) h = new-sound (s .workers) (s .next) (record { pid = s .next; control = c; frames = []; mail = []; links = []; traps = false }) refl refl h
+did-sound g s w me u t e (linked-gone q d f) h = h
+did-sound g s w me u t e (exited q r) h = h
+did-sound g s w me u t e (linked q x d f) h = link-sound (s .workers) me q (s .next) u x e f h
+did-sound g s w me u t e (trapped b) h = same-links (s .workers) me (s .next) (set-traps b) (λ x. refl) (λ x. refl) h
+did-sound g s w me u t e (showed l) h = h
+did-sound g s w me u t e (named x) h = h
+did-sound g s w me u t e (took ms) h = same-links (s .workers) me (s .next) (set-mail ms) (λ x. refl) (λ x. refl) h
+pub end-old-sound : (us : List Worker) (x : Name) (n : ℕ) (s : System) → SoundS s → SoundS (end-old us x n s)
+end-old-sound [] x n s h = h
+end-old-sound (u ∷ us) x n s h = end-old-sound us x n (cond (old x n u) (ended s u (v-atom a-old)) s) (cond-all SoundS (old x n u) (ended s u (v-atom a-old)) s (λ e. gone-sound (s .workers) (u .pid) (s .next) h) (λ e. h))
+pub set-sound : (s : System) (n : ℕ) (c : Control) (k : List Frame) → SoundS s → SoundS (on-worker s n (set-control c k))
+set-sound s n c k h = same-links (s .workers) n (s .next) (set-control c k) (λ x. refl) (λ x. refl) h
+turned-sound : (g : Program) (s : System) (n : ℕ) (me : Worker) (o : Outcome) → find (s .workers) (me .pid) ≡ some me → Turned g s me o → SoundS s → OnIs SoundS (settle n o)
+turned-sound g s n me o e (turn-goes c k w {t} d) h = set-sound t n c k (did-sound g s w (me .pid) me t e d h)
+turned-sound g s n me o e (turn-ends r why) h = gone-sound (s .workers) (me .pid) (s .next) h
+turned-sound g s n me o e (turn-swaps c k x m y d f wo) h = set-sound (swapped s x m) n c k (end-old-sound (s .workers) x m (with-version s x (m + 1)) h)
+turned-sound g s n me o e (turn-swapped-out x m d f wo) h = end-old-sound (s .workers) x m (with-version s x (m + 1)) h
+turned-sound g s n me o e turn-stuck h = tt
+soft-sound : (s : System) (g : Signal) (w : Worker) → SoundS s → SoundS (take-signal s g w)
+soft-sound s g w h = cond-all SoundS (w .traps) _ _ (λ e. same-links (s .workers) (w .pid) (s .next) _ (λ x. refl) (λ x. refl) h)
+  (λ e. cond-all SoundS (sameV (g .reason) (v-atom a-normal)) _ (ended s w (g .reason)) (λ d. cut-sound (s .workers) (w .pid) (g .from) (s .next) h) (λ d. gone-sound (s .workers) (w .pid) (s .next) h))
+deliver-sound : (s : System) (gs : List Signal) → SoundS s → OnIs SoundS (deliver s gs)
+deliver-sound s [] h = tt
+deliver-sound s (g ∷ gs) h = opt-all (OnIs SoundS) (find (s .workers) (g .to)) (is (with-signals s gs)) (λ w. is (take-signal (with-signals s gs) g w)) (λ e. h) (λ w e. soft-sound (with-signals s gs) g w h)
+-- any property of turns, from the view
+pub turn-all : (g : Program) (s : System) (n : ℕ) (P : Result → Type 0) → P not-allowed → ((me : Worker) (o : Outcome) → me .pid ≡ n → find (s .workers) (me .pid) ≡ some me → turn-of g s me ≡ some o → Turned g s me o → P (settle n o)) → P (move g s (turn n))
+turn-all g s n P no-turn f = opt-all P (find (s .workers) n) not-allowed (λ w. opt (turn-of g s w) not-allowed (settle n)) (λ e. no-turn)
+  (λ w e. opt-all P (turn-of g s w) not-allowed (settle n) (λ d. no-turn) (λ o d. let p = find-pid (s .workers) n w e in f w o p (subst (λ (z : ℕ). find (s .workers) z ≡ some w) (sym p) e) d (subst (OnSome (Turned g s w)) d (turn-view g s w))))
+pub move-sound : (g : Program) (s : System) (m : Move) → SoundS s → OnIs SoundS (move g s m)
+move-sound g s (turn n) h = turn-all g s n (OnIs SoundS) tt (λ me o p e d v. turned-sound g s n me o e v h)
+move-sound g s signal h = deliver-sound s (s .signals) h
+move-sound g s tick h = opt-all (OnIs SoundS) (first-time (s .workers)) not-allowed (λ t. cond (ltb (s .clock) t) (is (with-clock s t)) not-allowed) (λ e. tt) (λ t e. cond-all (OnIs SoundS) (ltb (s .clock) t) (is (with-clock s t)) not-allowed (λ d. h) (λ d. tt))
