@@ -70,7 +70,7 @@ canC-more (wait cs u w) ms ns t t2 h r = go (take-first cs (w .vars) ms) (take-f
     go o (some y) f r = refl
     go (some x) none f r = no-clash (f refl) refl
     go none none f r = ripe-later u t t2 h r
--- a worker leaves alone can go on if it could
+-- a worker left alone can go on if it could
 pub alone-can : (g : Program) (s t : System) (w x : Worker) → s .clock ≤ t .clock → Left-alone w x → can g s w ≡ true → can g t x ≡ true
 alone-can g s t w x h a r = can-is g t x (x .control) ∙ ap (λ (c : Control). canC c (x .mail) (t .clock)) (a .0) ∙ ap (λ (ms : List Value). canC (w .control) ms (t .clock)) (a .3 .1) ∙ canC-more (w .control) (w .mail) (a .3 .0) (s .clock) (t .clock) h (sym (can-is g s w (w .control)) ∙ r)
 abbrev StillAt : Program → ℕ → System → Type 0

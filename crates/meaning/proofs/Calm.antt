@@ -90,7 +90,7 @@ some-move g gd s sd wf h = bool-all (λ a. no-signals (s .signals) ≡ a → (a 
 pub quiet-means : Quiet-means
 quiet-means t g l s rd r = (quiet-still g s, λ h. bool-all (λ b. quiet g s ≡ b → quiet g s ≡ true) (quiet g s) (λ i j. i) (λ i j. let gd = reads-good t g rd in let y = some-move g gd s (reached-sound g l s r) (reached-wf g gd l s r) i in absurd (h (y .0) (y .1) (y .2))) refl)
 
--- the first time for which somebody wait
+-- the first time for which somebody waits
 pub first-below : (ws : List Worker) (q t : ℕ) (w : Worker) → find ws q ≡ some w → time-of (w .control) ≡ some t → (i : ℕ) × (first-time ws ≡ some i) × (i ≤ t)
 first-below [] q t w e d = absurd (none-some e)
 first-below (v ∷ ws) q t w e d = cond-all (λ o. o ≡ some w → (i : ℕ) × (first-time (v ∷ ws) ≡ some i) × (i ≤ t)) (eqb (v .pid) q) (some v) (find ws q)

@@ -18,6 +18,15 @@ pub find-pid : (ws : List Worker) (n : ℕ) (w : Worker) → find ws n ≡ some 
 find-pid [] n w e = absurd (subst (λ (o : Option Worker). T (opt o true (λ x. false))) e tt)
 find-pid (v ∷ ws) n w e = cond-all (λ o. o ≡ some w → w .pid ≡ n) (eqb (v .pid) n) (some v) (find ws n) (λ h e. subst (λ (x : Worker). x .pid ≡ n) (some-is e) (eqb-is (v .pid) n h)) (λ h e. find-pid ws n w e) e
 
+-- the first of a list, and the others
+pub find-here : (w : Worker) (ws : List Worker) (q : ℕ) → w .pid ≡ q → find (w ∷ ws) q ≡ some w
+find-here w ws q e = cond-true (eqb (w .pid) q) (some w) (find ws q) (eqb-yes (w .pid) q e)
+pub find-there : (w : Worker) (ws : List Worker) (q : ℕ) → (w .pid ≡ q → ⊥) → find (w ∷ ws) q ≡ find ws q
+find-there w ws q d = cond-false (eqb (w .pid) q) (some w) (find ws q) (eqb-no (w .pid) q d)
+pub none-there : (w : Worker) (ws : List Worker) (q : ℕ) → find (w ∷ ws) q ≡ none → (w .pid ≡ q → ⊥) × (find ws q ≡ none)
+none-there w ws q e = cond-all (λ o. o ≡ none → (w .pid ≡ q → ⊥) × (find ws q ≡ none)) (eqb (w .pid) q) (some w) (find ws q) (λ h d. absurd (none-some (sym d))) (λ h d. (eqb-isnt (w .pid) q h, d)) e
+
+-- one is changed
 pub find-change-other : (ws : List Worker) (n q : ℕ) (f : Worker → Worker) → Keeps f → (q ≡ n → ⊥) → find (change ws n f) q ≡ find ws q
 find-change-other [] n q f kp h = refl
 find-change-other (w ∷ ws) n q f kp h = bool-all (λ b. find (cond b (f w ∷ ws) (w ∷ change ws n f)) q ≡ cond (eqb (w .pid) q) (some w) (find ws q)) (eqb (w .pid) n)
@@ -28,6 +37,14 @@ find-change-same [] n f kp = refl
 find-change-same (w ∷ ws) n f kp = bool-all (λ b. eqb (w .pid) n ≡ b → find (cond b (f w ∷ ws) (w ∷ change ws n f)) n ≡ Option·map f (cond b (some w) (find ws n))) (eqb (w .pid) n)
   (λ e h. cond-true (eqb (f w .pid) n) (some (f w)) (find ws n) (eqb-yes (f w .pid) n (kp w ∙ eqb-is (w .pid) n e)))
   (λ e h. cond-false (eqb (w .pid) n) (some w) (find (change ws n f) n) e ∙ find-change-same ws n f kp) refl
+pub find-changed : (ws : List Worker) (n : ℕ) (f : Worker → Worker) (w : Worker) → Keeps f → find ws n ≡ some w → find (change ws n f) n ≡ some (f w)
+find-changed ws n f w kp e = find-change-same ws n f kp ∙ ap (Option·map f) e
+pub find-change-none : (ws : List Worker) (n q : ℕ) (f : Worker → Worker) → Keeps f → find ws q ≡ none → find (change ws n f) q ≡ none
+find-change-none ws n q f kp e = bool-all (λ b. find (change ws n f) q ≡ none) (eqb q n)
+  (λ h. let r = eqb-is q n h in ap (find (change ws n f)) r ∙ find-change-same ws n f kp ∙ ap (Option·map f) (ap (find ws) (sym r) ∙ e))
+  (λ h. find-change-other ws n q f kp (eqb-isnt q n h) ∙ e)
+
+-- one is gone
 pub find-gone-other : (ws : List Worker) (n q : ℕ) → (q ≡ n → ⊥) → find (gone ws n) q ≡ find ws q
 find-gone-other [] n q h = refl
 find-gone-other (w ∷ ws) n q h = bool-all (λ b. find (cond b ws (w ∷ gone ws n)) q ≡ cond (eqb (w .pid) q) (some w) (find ws q)) (eqb (w .pid) n)
@@ -38,15 +55,18 @@ find-gone-same [] n u = refl
 find-gone-same (w ∷ ws) n u = bool-all (λ b. find (cond b ws (w ∷ gone ws n)) n ≡ none) (eqb (w .pid) n)
   (λ e. subst (λ (x : ℕ). find ws x ≡ none) (eqb-is (w .pid) n e) (u .0))
   (λ e. cond-false (eqb (w .pid) n) (some w) (find (gone ws n) n) e ∙ find-gone-same ws n (u .1))
-pub find-gone-none : (ws : List Worker) (n q : ℕ) → find ws q ≡ none → Apart ws → find (gone ws n) q ≡ none
-find-gone-none ws n q e u = bool-all (λ b. find (gone ws n) q ≡ none) (eqb q n) (λ h. subst (λ (x : ℕ). find (gone ws n) x ≡ none) (sym (eqb-is q n h)) (find-gone-same ws n u)) (λ h. find-gone-other ws n q (eqb-isnt q n h) ∙ e)
--- a new one at the end
-pub find-new-old : (ws : List Worker) (v w : Worker) (q : ℕ) → find ws q ≡ some w → find (ws ++ (v ∷ [])) q ≡ some w
-find-new-old [] v w q e = absurd (none-some e)
-find-new-old (x ∷ ws) v w q e = bool-all (λ b. cond b (some x) (find ws q) ≡ some w → cond b (some x) (find (ws ++ (v ∷ [])) q) ≡ some w) (eqb (x .pid) q) (λ h e. e) (λ h e. find-new-old ws v w q e) e
-pub find-new : (ws : List Worker) (v : Worker) (q : ℕ) → find ws q ≡ none → find (ws ++ (v ∷ [])) q ≡ cond (eqb (v .pid) q) (some v) none
-find-new [] v q e = refl
-find-new (x ∷ ws) v q e = bool-all (λ b. cond b (some x) (find ws q) ≡ none → cond b (some x) (find (ws ++ (v ∷ [])) q) ≡ cond (eqb (v .pid) q) (some v) none) (eqb (x .pid) q) (λ h e. absurd (none-some (sym e))) (λ h e. find-new ws v q e) e
+pub find-gone-none : (ws : List Worker) (n q : ℕ) → find ws q ≡ none → find (gone ws n) q ≡ none
+find-gone-none [] n q e = refl
+find-gone-none (w ∷ ws) n q e = let t = none-there w ws q e in bool-all (λ b. find (cond b ws (w ∷ gone ws n)) q ≡ none) (eqb (w .pid) n)
+  (λ h. t .1)
+  (λ h. find-there w (gone ws n) q (t .0) ∙ find-gone-none ws n q (t .1))
+-- with others behind them
+pub find-append-some : (ws vs : List Worker) (q : ℕ) (w : Worker) → find ws q ≡ some w → find (ws ++ vs) q ≡ some w
+find-append-some [] vs q w e = absurd (none-some e)
+find-append-some (x ∷ ws) vs q w e = bool-all (λ b. cond b (some x) (find ws q) ≡ some w → cond b (some x) (find (ws ++ vs) q) ≡ some w) (eqb (x .pid) q) (λ h e. e) (λ h e. find-append-some ws vs q w e) e
+pub find-append-none : (ws vs : List Worker) (q : ℕ) → find ws q ≡ none → find (ws ++ vs) q ≡ find vs q
+find-append-none [] vs q e = refl
+find-append-none (x ∷ ws) vs q e = let t = none-there x ws q e in find-there x (ws ++ vs) q (t .0) ∙ find-append-none ws vs q (t .1)
 -- numbers stay apart
 pub apart-change : (ws : List Worker) (n : ℕ) (f : Worker → Worker) → Keeps f → Apart ws → Apart (change ws n f)
 apart-change [] n f kp u = tt
@@ -61,4 +81,4 @@ apart-gone (w ∷ ws) n u = bool-all (λ b. eqb (w .pid) n ≡ b → Apart (cond
 pub apart-new : (ws : List Worker) (v : Worker) → find ws (v .pid) ≡ none → Apart ws → Apart (ws ++ (v ∷ []))
 apart-new [] v e u = (refl, tt)
 apart-new (w ∷ ws) v e u = cond-all (λ o. o ≡ none → Apart (w ∷ (ws ++ (v ∷ [])))) (eqb (w .pid) (v .pid)) (some w) (find ws (v .pid)) (λ h e. absurd (none-some (sym e)))
-  (λ h e. (find-new ws v (w .pid) (u .0) ∙ cond-false (eqb (v .pid) (w .pid)) (some v) none (eqb-no (v .pid) (w .pid) (λ r. eqb-isnt (w .pid) (v .pid) h (sym r))), apart-new ws v e (u .1))) e
+  (λ h e. (find-append-none ws (v ∷ []) (w .pid) (u .0) ∙ cond-false (eqb (v .pid) (w .pid)) (some v) none (eqb-no (v .pid) (w .pid) (λ r. eqb-isnt (w .pid) (v .pid) h (sym r))), apart-new ws v e (u .1))) e

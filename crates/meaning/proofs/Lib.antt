@@ -10,3 +10,14 @@ pub mod Meant
 pub mod Able
 pub mod Calm
 pub mod Numbers
+pub mod Past
+pub mod Queue
+pub mod Stretch
+pub mod Ready
+pub mod Carry
+pub mod Model
+pub mod Waking
+pub mod Start
+pub mod Scan
+pub mod Progress
+pub mod Lines

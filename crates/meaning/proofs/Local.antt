@@ -1,4 +1,4 @@
--- What a worker goes-on on with: properties of its enter-function and frames that turns keep.
+-- What a worker goes on with: properties of its code and frames that turns keep.
 use mathlib.Core.Path.{_≡_, refl, sym, ap, subst, _∙_}
 use mathlib.Core.Logic.{_⊎_, inl, inr}
 use mathlib.Core.Bool.{false, cond}
@@ -21,12 +21,12 @@ use Rattle.meaning.proofs.Finding.{Keeps, apart-gone}
 use Rattle.meaning.proofs.Effects.{Arity, Act, acts-value, acts-error, acts-call, acts-swap, acts-swapped-out, acts-stuck, perform-view}
 use Rattle.meaning.proofs.Sound.{back, new-back, add-link-keeps, Sub, gone-sub, OnR}
 
--- every worker of t was there with the same enter-function and frames, or is new and has the property
+-- every worker of t was there with the same code and frames, or is new and has the property
 abbrev pub OldOr : (Control → Type 0) → System → System → Type 0
 OldOr PC s t = (q : ℕ) (x : Worker) → find (t .workers) q ≡ some x → ((y : Worker) × (find (s .workers) q ≡ some y) × (x .control ≡ y .control) × (x .frames ≡ y .frames)) ⊎ (PC (x .control) × (x .frames ≡ []))
 pub old-refl : (PC : Control → Type 0) (s : System) → OldOr PC s s
 old-refl PC s q x e = inl (x, e, refl, refl)
--- a change that leaves enter-function and frames
+-- a change that leaves code and frames
 abbrev pub KeepsCode : (Worker → Worker) → Type 0
 KeepsCode f = (w : Worker) → (f w .control ≡ w .control) × (f w .frames ≡ w .frames)
 pub change-code : (ws : List Worker) (n : ℕ) (f : Worker → Worker) → Keeps f → KeepsCode f → (q : ℕ) (x : Worker) → find (change ws n f) q ≡ some x → (y : Worker) × (find ws q ≡ some y) × (x .control ≡ y .control) × (x .frames ≡ y .frames)
@@ -45,7 +45,7 @@ did-old PC g s w me t fr (showed l) q x e = inl (x, e, refl, refl)
 did-old PC g s w me t fr (named y) q x e = inl (x, e, refl, refl)
 did-old PC g s w me t fr (took ms) q x e = inl (change-code (s .workers) me (set-mail ms) (λ y. refl) (λ y. (refl, refl)) q x e)
 
--- what a turn leads to: what the worker goes-on on with has the property, and so has what is new; ST stands for being stuck
+-- what a turn leads to: what the worker goes on with has the property, and so has what is new; ST stands for being stuck
 abbrev pub Next : (Control → Type 0) → (List Frame → Type 0) → Type 0 → System → Outcome → Type 0
 Next PC PK ST s (goes-on c k t) = PC c × PK k × OldOr PC s t
 Next PC PK ST s (leaves t) = Unit {0}
@@ -64,7 +64,7 @@ act-next PC PK ST g k s me w j n o pv pf fr pk st u (acts-swap x m v y e h) = (p
 act-next PC PK ST g k s me w j n o pv pf fr pk st u (acts-swapped-out x m e h) = tt
 act-next PC PK ST g k s me w j n o pv pf fr pk st u (acts-stuck h) = st h
 
--- enter-function and frames of all workers have the property
+-- code and frames of all workers have the property
 abbrev pub HasAll : (Control → Type 0) → (List Frame → Type 0) → List Worker → Type 0
 HasAll PC PK ws = (q : ℕ) (x : Worker) → find ws q ≡ some x → PC (x .control) × PK (x .frames)
 module _ (PC : Control → Type 0) (PK : List Frame → Type 0) where
@@ -84,7 +84,7 @@ module _ (PC : Control → Type 0) (PK : List Frame → Type 0) where
       go : (y : Worker) → find (t .workers) q ≡ some y → ((q ≡ n → ⊥) × (x ≡ y)) ⊎ ((q ≡ n) × (x ≡ set-control c k y)) → PC (x .control) × PK (x .frames)
       go y d (inl i) = subst (λ (z : Worker). PC (z .control) × PK (z .frames)) (sym (i .1)) (go2 y d (od q y d))
       go y d (inr i) = subst (λ (z : Worker). PC (z .control) × PK (z .frames)) (sym (i .1)) (pc, pk)
-  -- signals and the clock change no-e enter-function
+  -- signals and the clock change no code
   pub soft-all : (s : System) (g : Signal) (w : Worker) → Apart (s .workers) → HasAll PC PK (s .workers) → HasAll PC PK (take-signal s g w .workers)
   soft-all s g w u h = cond-all (λ (t : System). HasAll PC PK (t .workers)) (w .traps) _ _ (λ e. kept-all (s .workers) (w .pid) (add-mail _) (λ x. refl) (λ x. (refl, refl)) h)
     (λ e. cond-all (λ (t : System). HasAll PC PK (t .workers)) (sameV (g .reason) (v-atom a-normal)) _ (ended s w (g .reason)) (λ d. kept-all (change (s .workers) (w .pid) (cut-link (g .from))) (g .from) (cut-link (w .pid)) (λ x. refl) (λ x. (refl, refl)) (kept-all (s .workers) (w .pid) (cut-link (g .from)) (λ x. refl) (λ x. (refl, refl)) h)) (λ d. sub-all (gone (s .workers) (w .pid)) (s .workers) (gone-sub (s .workers) (w .pid) u) h))
@@ -94,7 +94,7 @@ module _ (PC : Control → Type 0) (PK : List Frame → Type 0) where
 pub tick-all : (Pattern : System → Type 0) (N : Type 0) (s : System) → ((t : ℕ) → Pattern (with-clock s t)) → OnR Pattern N (clock-on s)
 tick-all Pattern N s h = opt-all (OnR Pattern N) (first-time (s .workers)) not-allowed (λ t. cond (ltb (s .clock) t) (is (with-clock s t)) not-allowed) (λ e. tt) (λ t e. cond-all (OnR Pattern N) (ltb (s .clock) t) (is (with-clock s t)) not-allowed (λ d. h t) (λ d. tt))
 
--- where enter-function is at work: a property of each module and functions-of
+-- where code is at work: a property of each module and version
 abbrev pub AllC : (Name → ℕ → Type 0) → Control → Type 0
 AllC Q (eval e w) = Q (w .home) (w .version)
 AllC Q (give v) = Unit {0}

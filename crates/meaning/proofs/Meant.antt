@@ -1,4 +1,4 @@
--- No program that is read comes to where nothing is meant: names are bound, and jobs have as operands-frame operands as they take.
+-- No program that is read comes to where nothing is meant: names are bound, and jobs have as many operands as they take.
 use mathlib.Core.Path.{_≡_, refl, sym, ap, subst}
 use mathlib.Core.Bool.{true, false, _&&_, _||_, cond}
 use mathlib.Core.List.{List, [], _∷_, _++_}
@@ -105,7 +105,7 @@ fn-good : (fs : List Function) (x : Name) (n : ℕ) → GFs fs → OnSome (λ (f
 fn-good [] x n h = tt
 fn-good (f ∷ fs) x n h = cond-all (OnSome (λ (f : Function). GB (f .params) (f .body) × (length (f .params) ≡ n))) (same (f .name) x && eqb (length (f .params)) n) (some f) (function-of fs x n) (λ e. (h .0, eqb→eq (length (f .params)) n (and-T (same (f .name) x) (eqb (length (f .params)) n) (T-of e) .1))) (λ e. fn-good fs x n (h .1))
 
--- names bound, and what is resume under them
+-- names bound, and what is found under them
 abbrev pub names-of : List Binding → List Name
 names-of [] = []
 names-of (b ∷ bs) = b .name ∷ names-of bs

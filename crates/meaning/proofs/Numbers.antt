@@ -17,7 +17,7 @@ use Rattle.meaning.specs.Moves.{Move, turn, signal, tick, Result, is, not-allo
 use Rattle.meaning.specs.Promise.{Few-numbers, Names-live}
 use Rattle.meaning.specs.Effects.{Effect, nothing, sent, spawned, linked-gone, exited, linked, trapped, showed, named, took, Turned, turn-goes, turn-ends, turn-swaps, turn-swapped-out, turn-stuck}
 use Rattle.meaning.proofs.Splits.{cond-all, opt-all, some-is, none-some, eqb-isnt}
-use Rattle.meaning.proofs.Finding.{Keeps, find-gone-other, find-new-old}
+use Rattle.meaning.proofs.Finding.{Keeps, find-gone-other, find-append-some}
 use Rattle.meaning.proofs.Sound.{OnIs, on-is-of, add-link-keeps, turn-all}
 use Rattle.meaning.proofs.Parts.{begin-all, reached-all}
 use Rattle.meaning.proofs.Told.{change-stays}
@@ -91,7 +91,7 @@ live-change ws n f ks kp h = live-more ws (change ws n f) ks (λ q i. change-sta
 did-names : (g : Program) (s : System) (w : Scope) (me : ℕ) (u : Worker) (t : System) → find (s .workers) me ≡ some u → Effect g s w me t → LiveS s → LiveS t
 did-names g s w me u t e nothing h = h
 did-names g s w me u t e (sent q v) h = live-change (s .workers) q (add-mail v) (s .names) (λ x. refl) h
-did-names g s w me u t e (spawned c f) h = live-more (s .workers) (with-new s c .workers) (s .names) (λ q i. (i .0, find-new-old (s .workers) _ (i .0) q (i .1))) h
+did-names g s w me u t e (spawned c f) h = live-more (s .workers) (with-new s c .workers) (s .names) (λ q i. (i .0, find-append-some (s .workers) _ q (i .0) (i .1))) h
 did-names g s w me u t e (linked-gone p d f) h = h
 did-names g s w me u t e (exited p r) h = h
 did-names g s w me u t e (linked q x d f) h = live-change (change (s .workers) me (add-link q)) q (add-link me) (s .names) (add-link-keeps me) (live-change (s .workers) me (add-link q) (s .names) (add-link-keeps q) h)

@@ -18,7 +18,7 @@ use Rattle.meaning.specs.Bound.{has-main, sound-modules}
 use Rattle.meaning.specs.Promise.{Begins, Reached, Left-alone, Alone, Links-both}
 use Rattle.meaning.specs.Effects.{Effect, nothing, sent, spawned, linked-gone, exited, linked, trapped, showed, named, took, Turned, turn-goes, turn-ends, turn-swaps, turn-swapped-out, turn-stuck}
 use Rattle.meaning.proofs.Splits.{and-T, no-clash, cond-all, cond-true, cond-false, bool-all, some-is, none-some, eqb-is, eqb-isnt, same-refl, OnSome}
-use Rattle.meaning.proofs.Finding.{Keeps, find-change-other, find-change-same, find-gone-other, find-gone-same, find-new-old, apart-gone}
+use Rattle.meaning.proofs.Finding.{Keeps, find-change-other, find-change-same, find-gone-other, find-gone-same, find-append-some, apart-gone}
 use Rattle.meaning.proofs.Sound.{OnIs, on-is-of, along, add-link-keeps, SoundS, turn-all, move-sound}
 
 -- the first system
@@ -70,7 +70,7 @@ change-alone ws n f kp al q w e = let r = change-found ws n f kp q w e in (r .0,
 did-alone : (g : Program) (s : System) (v : Scope) (me : ℕ) (t : System) → Effect g s v me t → (q : ℕ) (w : Worker) → (q ≡ me → ⊥) → find (s .workers) q ≡ some w → (x : Worker) × (find (t .workers) q ≡ some x) × Left-alone w x
 did-alone g s v me t nothing q w h e = (w, e, alone-refl w)
 did-alone g s v me t (sent p m) q w h e = change-alone (s .workers) p (add-mail m) (λ x. refl) (λ x. (refl, refl, refl, (m ∷ [], refl, omega arith))) q w e
-did-alone g s v me t (spawned c f) q w h e = (w, find-new-old (s .workers) _ w q e, alone-refl w)
+did-alone g s v me t (spawned c f) q w h e = (w, find-append-some (s .workers) _ q w e, alone-refl w)
 did-alone g s v me t (linked-gone p d f) q w h e = (w, e, alone-refl w)
 did-alone g s v me t (exited p r) q w h e = (w, e, alone-refl w)
 did-alone g s v me t (linked p x d f) q w h e = change-alone (change (s .workers) me (add-link p)) p (add-link me) (add-link-keeps me) (λ y. cond-all (Left-alone y) (among me (y .links)) y (set-links (y .links ++ (me ∷ [])) y) (λ z. alone-refl y) (λ z. (refl, refl, refl, ([], sym (append-nil (y .mail)), omega arith)))) q w (find-change-other (s .workers) me q (add-link p) (add-link-keeps p) h ∙ e)
@@ -79,7 +79,7 @@ did-alone g s v me t (showed l) q w h e = (w, e, alone-refl w)
 did-alone g s v me t (named x) q w h e = (w, e, alone-refl w)
 did-alone g s v me t (took ms) q w h e = (w, find-change-other (s .workers) me q (set-mail ms) (λ x. refl) h ∙ e, alone-refl w)
 
--- a swap: who has old enter-function is gone, and who has none is as before
+-- a swap: who has old code is gone, and who has none is as before
 pub end-old-keeps : (us : List Worker) (x : Name) (n : ℕ) (s : System) (q : ℕ) → find us q ≡ none → find (end-old us x n s .workers) q ≡ find (s .workers) q
 end-old-keeps [] x n s q e = refl
 end-old-keeps (u ∷ us) x n s q e = cond-all (λ o. o ≡ none → find (end-old us x n (cond (old x n u) (ended s u (v-atom a-old)) s) .workers) q ≡ find (s .workers) q) (eqb (u .pid) q) (some u) (find us q)
@@ -106,7 +106,7 @@ current-now (l ∷ ls) x m n e = bool-all (λ b. same (l .name) x ≡ b → cond
 swapped-loaded : (s : System) (x : Name) (m : ℕ) → current (s .loaded) x ≡ some m → s .loaded ≡ swapped s x m .loaded → ⊥
 swapped-loaded s x m e d = let a : current (swapped s x m .loaded) x ≡ some (m + 1) = ap (λ (l : List Loaded). current l x) (end-old-loaded (s .workers) x m (with-version s x (m + 1))) ∙ current-now (s .loaded) x (m + 1) m e in let b : m ≡ m + 1 = some-is (sym e ∙ ap (λ (l : List Loaded). current l x) d ∙ a) in omega arith
 
--- Control
+-- C
 abbrev pub AloneAt : System → ℕ → Worker → System → Type 0
 AloneAt s q w t = ((x : Worker) × (find (t .workers) q ≡ some x) × Left-alone w x) ⊎ ((s .loaded ≡ t .loaded → ⊥) × (find (t .workers) q ≡ none))
 swap-alone : (s : System) (x : Name) (m q : ℕ) (w : Worker) → Apart (s .workers) → current (s .loaded) x ≡ some m → find (s .workers) q ≡ some w → AloneAt s q w (swapped s x m)

@@ -16,7 +16,7 @@ use Rattle.meaning.specs.Turns.{Outcome, turn-of}
 use Rattle.meaning.specs.Moves.{Move, turn, signal, tick, Result, is, not-allowed, no-meaning, settle, take-signal, deliver, first-time, move, moves, on-is}
 use Rattle.meaning.specs.Effects.{Effect, nothing, sent, spawned, linked-gone, exited, linked, trapped, showed, named, took, Turned, turn-goes, turn-ends, turn-swaps, turn-swapped-out, turn-stuck}
 use Rattle.meaning.proofs.Splits.{no-clash, cond-all, opt-all, bool-all, some-is, none-some, eqb-no, eqb-yes, eqb-is, eqb-isnt, OnSome}
-use Rattle.meaning.proofs.Finding.{Keeps, find-pid, find-change-other, find-change-same, find-gone-other, find-gone-same, find-new-old, find-new, apart-change, apart-gone, apart-new}
+use Rattle.meaning.proofs.Finding.{Keeps, find-pid, find-change-other, find-change-same, find-gone-other, find-gone-same, find-append-some, find-append-none, apart-change, apart-gone, apart-new}
 use Rattle.meaning.proofs.Effects.{turn-view}
 
 -- what holds of every system that a result is; N stands for having no meaning
@@ -113,8 +113,8 @@ pub new-back : (ws : List Worker) (v : Worker) (q : ℕ) (x : Worker) → find (
 new-back ws v q x e = go (find ws q) refl
   where
     go : (o : Option Worker) → find ws q ≡ o → (find ws q ≡ some x) ⊎ ((q ≡ v .pid) × (x ≡ v))
-    go (some y) r = inl (r ∙ sym (find-new-old ws v y q r) ∙ e)
-    go none r = bool-all (λ b. eqb (v .pid) q ≡ b → cond b (some v) none ≡ some x → (find ws q ≡ some x) ⊎ ((q ≡ v .pid) × (x ≡ v))) (eqb (v .pid) q) (λ t d c. inr (sym (eqb-is (v .pid) q d), sym (some-is c))) (λ t d c. absurd (none-some c)) refl (sym (find-new ws v q r) ∙ e)
+    go (some y) r = inl (r ∙ sym (find-append-some ws (v ∷ []) q y r) ∙ e)
+    go none r = bool-all (λ b. eqb (v .pid) q ≡ b → cond b (some v) none ≡ some x → (find ws q ≡ some x) ⊎ ((q ≡ v .pid) × (x ≡ v))) (eqb (v .pid) q) (λ t d c. inr (sym (eqb-is (v .pid) q d), sym (some-is c))) (λ t d c. absurd (none-some c)) refl (sym (find-append-none ws (v ∷ []) q r) ∙ e)
 -- a new worker, with the next number and no links
 pub new-sound : (ws : List Worker) (k : ℕ) (v : Worker) → v .pid ≡ k → v .links ≡ [] → Sound ws k → Sound (ws ++ (v ∷ [])) (k + 1)
 new-sound ws k v p n h = record {

@@ -1,6 +1,7 @@
 -- Case splits with a motive: to show P of a test or an option, show it of each way, knowing which way it is.
 -- All case analysis of computed tests in this crate goes through these.
 use mathlib.Core.Path.{_≡_, refl, sym, subst}
+use mathlib.Core.Logic.{_⊎_, inl, inr}
 use mathlib.Core.Bool.{Bool, true, false, _&&_, cond}
 use mathlib.Core.List.{[], _∷_}
 use mathlib.Core.Option.{Option, some, none, Option·none-ne-some}
@@ -72,3 +73,7 @@ on-some-is (some x) f y e = (x, refl, e)
 pub on-some-all : {A D : Type 0} (P : A → Type 0) (R : D → Type 0) (o : Option A) (f : A → Option D) → OnSome P o → ((x : A) → P x → OnSome R (f x)) → OnSome R (on-some o f)
 on-some-all P R none f h i = tt
 on-some-all P R (some x) f h i = i x h
+
+-- two numbers are equal or not
+pub either : (a b : ℕ) → (a ≡ b) ⊎ (a ≡ b → ⊥)
+either a b = bool-all (λ t. (a ≡ b) ⊎ (a ≡ b → ⊥)) (eqb a b) (λ h. inl (eqb-is a b h)) (λ h. inr (eqb-isnt a b h))

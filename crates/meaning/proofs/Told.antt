@@ -1,4 +1,4 @@
--- Whoever is linked to a worker that end-reason is told, behind the signals that were there.
+-- Whoever is linked to a worker that ends is told, behind the signals that were there.
 use mathlib.Core.Path.{_≡_, refl, sym, ap, subst, _∙_}
 use mathlib.Core.Logic.{inl, inr}
 use mathlib.Core.Bool.{true, _||_, cond}
@@ -16,7 +16,7 @@ use Rattle.meaning.specs.Moves.{Move, turn, signal, tick, is, not-allowed, set
 use Rattle.meaning.specs.Promise.{Behind, Linked-told, end-reason, oldest-reason, reason-of, Told-of, this-one, a-later}
 use Rattle.meaning.specs.Effects.{Effect, nothing, sent, spawned, linked-gone, exited, linked, trapped, showed, named, took, Turned, turn-goes, turn-ends, turn-swaps, turn-swapped-out, turn-stuck}
 use Rattle.meaning.proofs.Splits.{no-clash, cond-all, opt-all, cond-true, bool-all, some-is, none-some, eqb-yes, eqb-is, eqb-isnt}
-use Rattle.meaning.proofs.Finding.{Keeps, find-pid, find-gone-other, find-new-old}
+use Rattle.meaning.proofs.Finding.{Keeps, find-pid, find-gone-other, find-append-some}
 use Rattle.meaning.proofs.Sound.{OnIs, on-is-of, add-link-keeps, SoundS, turn-all}
 use Rattle.meaning.proofs.Parts.{change-found, end-old-spares, reached-sound}
 
@@ -28,7 +28,7 @@ change-here ws n f kp q w e d = let r = change-found ws n f kp q w e in none-som
 pub did-stays : (g : Program) (s : System) (v : Scope) (me : ℕ) (t : System) → Effect g s v me t → (q : ℕ) (w : Worker) → find (s .workers) q ≡ some w → (x : Worker) × (find (t .workers) q ≡ some x)
 did-stays g s v me t nothing q w e = (w, e)
 did-stays g s v me t (sent p m) q w e = change-stays (s .workers) p (add-mail m) (λ x. refl) q w e
-did-stays g s v me t (spawned c f) q w e = (w, find-new-old (s .workers) _ w q e)
+did-stays g s v me t (spawned c f) q w e = (w, find-append-some (s .workers) _ q w e)
 did-stays g s v me t (linked-gone p d f) q w e = (w, e)
 did-stays g s v me t (exited p r) q w e = (w, e)
 did-stays g s v me t (linked p x d f) q w e = let r = change-stays (s .workers) me (add-link p) (add-link-keeps p) q w e in change-stays (change (s .workers) me (add-link p)) p (add-link me) (add-link-keeps me) q (r .0) (r .1)

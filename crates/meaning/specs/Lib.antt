@@ -15,3 +15,4 @@ pub mod Space
 pub mod Promise
 pub mod Fair
 pub mod Effects
+pub mod Scheduler

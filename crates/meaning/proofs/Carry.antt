@@ -1,0 +1,197 @@
+-- The queue after a move is exact again, if those that became able are put at its end.
+use mathlib.Core.Path.{_≡_, refl, sym, ap, subst, _∙_}
+use mathlib.Core.Logic.{_⊎_, inl, inr}
+use mathlib.Core.Bool.{true}
+use mathlib.Core.List.{List, [], _∷_, _++_, append-assoc}
+use mathlib.Core.Option.{Option, some, none}
+use Prim.Native.Nat.{ℕ, zero, _≤_}
+use native.Mathlib.Omega.{arith}
+use Rattle.meaning.specs.Basics.{opt}
+use Rattle.meaning.specs.Syntax.{Program}
+use Rattle.meaning.specs.System.{Worker, System, find}
+use Rattle.meaning.specs.Turns.{can}
+use Rattle.meaning.specs.Fair.{Could}
+use Rattle.meaning.specs.Scheduler.{Entry, round, worker, serve, flush, slice, batch, At, here, Mem, Distinct, Kept, end, keep, leave, Queues}
+use Rattle.meaning.proofs.Queue.{At-none, At-append, Mem-cases, behind}
+use Rattle.meaning.proofs.Ready.{can-is, ready, ready-more}
+use Rattle.meaning.proofs.Past.{Now, Past}
+use Rattle.meaning.proofs.Splits.{either}
+
+-- who can go on still can, or is no more
+module _ (g : Program) (s t : System) where
+  pub still : (q : ℕ) (w : Worker) (o : Option Worker) → s .clock ≤ t .clock → can g s w ≡ true → Now w o → find (t .workers) q ≡ o → Could g t q ⊎ (find (t .workers) q ≡ none)
+  still q w none le c y e = inr e
+  still q w (some x) le c (a, (ms, b)) e = inl (x, e, can-is g t x ∙ ap (λ z. ready (t .clock) z (x .mail)) a ∙ ap (λ z. ready (t .clock) (w .control) z) b ∙ ready-more (s .clock) (t .clock) (w .control) (w .mail) ms le (sym (can-is g s w) ∙ c))
+  pub keeps : (n q : ℕ) → Past n s t → (q ≡ n → ⊥) → Could g s q → Could g t q ⊎ (find (t .workers) q ≡ none)
+  keeps n q p d (w, f, c) = let e = p .clock in still q w (find (t .workers) q) (omega arith) c (p .others q w d f) refl
+pub not-both : (g : Program) (s : System) (p : ℕ) → find (s .workers) p ≡ none → Could g s p → ⊥
+not-both g s p e c = let z : _≡_ {A = ℕ} 0 1 = cc (c .1) in omega arith
+
+-- members of queues
+pub Mem-left : {x : Entry} {es : List Entry} (fs : List Entry) → Mem x es → Mem x (es ++ fs)
+Mem-left fs (n, a) = (n, At-append fs a)
+pub Mem-right : {x : Entry} (es : List Entry) {fs : List Entry} → Mem x fs → Mem x (es ++ fs)
+Mem-right [] m = m
+Mem-right (y ∷ es) m = behind y (Mem-right es m)
+pub Mem-split : {x : Entry} (es : List Entry) {fs : List Entry} → Mem x (es ++ fs) → Mem x es ⊎ Mem x fs
+Mem-split [] m = inr m
+Mem-split {x} (y ∷ es) {fs} m = go (Mem-cases m) (Mem-split es)
+  where
+    go : (x ≡ y) ⊎ Mem x (es ++ fs) → (Mem x (es ++ fs) → Mem x es ⊎ Mem x fs) → Mem x (y ∷ es) ⊎ Mem x fs
+    go (inl e) ih = inl (zero, subst (λ z. At x zero (z ∷ es)) e here)
+    go (inr m) ih = other (ih m)
+      where
+        other : Mem x es ⊎ Mem x fs → Mem x (y ∷ es) ⊎ Mem x fs
+        other (inl a) = inl (behind y a)
+        other (inr b) = inr b
+pub Distinct-append : (es fs : List Entry) → Distinct es → Distinct fs → ((x : Entry) → Mem x es → Mem x fs → ⊥) → Distinct (es ++ fs)
+Distinct-append [] fs d e h = e
+Distinct-append (x ∷ es) fs d e h = (λ m. go (Mem-split es m), Distinct-append es fs (d .1) e (λ y a b. h y (behind x a) b))
+  where
+    go : Mem x es ⊎ Mem x fs → ⊥
+    go (inl a) = d .0 a
+    go (inr b) = h x (zero, here) b
+-- those that are no more are left out
+abbrev pub alive : System → List Entry → List Entry
+alive s [] = []
+alive s (round ∷ es) = round ∷ alive s es
+alive s (worker p ∷ es) = opt (find (s .workers) p) (alive s es) (λ w. worker p ∷ alive s es)
+pub alive-kept : (s : System) (es : List Entry) → Kept s es (alive s es)
+alive-kept s [] = end
+alive-kept s (round ∷ es) = keep (alive-kept s es)
+alive-kept s (worker p ∷ es) = go (find (s .workers) p) refl (alive-kept s es)
+  where
+    go : (o : Option Worker) → find (s .workers) p ≡ o → Kept s es (alive s es) → Kept s (worker p ∷ es) (opt o (alive s es) (λ w. worker p ∷ alive s es))
+    go none e ih = leave e ih
+    go (some w) e ih = keep ih
+pub kept-from : {s : System} {es fs : List Entry} → Kept s es fs → (x : Entry) → Mem x fs → Mem x es
+kept-from end x m = m
+kept-from {s} (keep {x = y} {es = es} {fs = fs} k) x m = go (Mem-cases m) (kept-from k x)
+  where
+    go : (x ≡ y) ⊎ Mem x fs → (Mem x fs → Mem x es) → Mem x (y ∷ es)
+    go (inl e) ih = (zero, subst (λ z. At x zero (z ∷ es)) e here)
+    go (inr a) ih = behind y (ih a)
+kept-from (leave {p = p} e k) x m = behind (worker p) (kept-from k x m)
+pub kept-distinct : {s : System} {es fs : List Entry} → Kept s es fs → Distinct es → Distinct fs
+kept-distinct end d = d
+kept-distinct (keep {x = x} k) d = (λ m. d .0 (kept-from k x m), kept-distinct k (d .1))
+kept-distinct (leave e k) d = kept-distinct k (d .1)
+pub kept-to : {s : System} {es fs : List Entry} (g : Program) → Kept s es fs → (p : ℕ) → Could g s p → Mem (worker p) es → Mem (worker p) fs
+kept-to g end p c m = m
+kept-to {s} g (keep {x = y} {es = es} {fs = fs} k) p c m = go (Mem-cases m) (kept-to g k p c)
+  where
+    go : (worker p ≡ y) ⊎ Mem (worker p) es → (Mem (worker p) es → Mem (worker p) fs) → Mem (worker p) (y ∷ fs)
+    go (inl e) ih = (zero, subst (λ z. At (worker p) zero (z ∷ fs)) e here)
+    go (inr a) ih = behind y (ih a)
+kept-to {s} g (leave {p = q} {es = es} {fs = fs} e k) p c m = go (Mem-cases m) (kept-to g k p c)
+  where
+    go : (worker p ≡ worker q) ⊎ Mem (worker p) es → (Mem (worker p) es → Mem (worker p) fs) → Mem (worker p) fs
+    go (inl d) ih = let y : p ≡ q = cc in absurd (not-both g s q e (subst (Could g s) y c))
+    go (inr a) ih = ih a
+pub kept-round : {s : System} {es fs : List Entry} → Kept s es fs → Mem round es → Mem round fs
+kept-round end m = m
+kept-round {s} (keep {x = y} {es = es} {fs = fs} k) m = go (Mem-cases m) (kept-round k)
+  where
+    go : (round ≡ y) ⊎ Mem round es → (Mem round es → Mem round fs) → Mem round (y ∷ fs)
+    go (inl e) ih = (zero, subst (λ z. At round zero (z ∷ fs)) e here)
+    go (inr a) ih = behind y (ih a)
+kept-round {s} (leave {p = q} {es = es} {fs = fs} e k) m = go (Mem-cases m) (kept-round k)
+  where
+    go : (round ≡ worker q) ⊎ Mem round es → (Mem round es → Mem round fs) → Mem round fs
+    go (inl d) ih = let z : _≡_ {A = ℕ} 0 1 = cc in absurd (omega arith)
+    go (inr a) ih = ih a
+
+-- those that became able by a move, but for n
+pub record Woken (g : Program) (n : ℕ) (s t : System) (new : List Entry) : Type 0 where
+  pub once : Distinct new
+  pub each : (x : Entry) → Mem x new → (q : ℕ) × (x ≡ worker q) × (q ≡ n → ⊥) × Could g t q × (Could g s q → ⊥)
+  pub all : (q : ℕ) → (q ≡ n → ⊥) → Could g t q → Could g s q ⊎ Mem (worker q) new
+
+pub alive-not : (t : System) (es : List Entry) (q : ℕ) → Mem (worker q) (alive t es) → find (t .workers) q ≡ none → ⊥
+alive-not t [] q m e = At-none (m .1)
+alive-not t (round ∷ es) q m e = go (Mem-cases m) (λ a. alive-not t es q a e)
+  where
+    go : (worker q ≡ round) ⊎ Mem (worker q) (alive t es) → (Mem (worker q) (alive t es) → ⊥) → ⊥
+    go (inl d) ih = let z : _≡_ {A = ℕ} 0 1 = cc in omega arith
+    go (inr a) ih = ih a
+alive-not t (worker p ∷ es) q m e = go (find (t .workers) p) refl m (λ a. alive-not t es q a e)
+  where
+    go : (o : Option Worker) → find (t .workers) p ≡ o → Mem (worker q) (opt o (alive t es) (λ w. worker p ∷ alive t es)) → (Mem (worker q) (alive t es) → ⊥) → ⊥
+    go none d a ih = ih a
+    go (some w) d a ih = side (Mem-cases a)
+      where
+        side : (worker q ≡ worker p) ⊎ Mem (worker q) (alive t es) → ⊥
+        side (inl f) = let y : q ≡ p = cc in let z : _≡_ {A = ℕ} 0 1 = cc in omega arith
+        side (inr b) = ih b
+
+module _ (g : Program) (s t : System) (n : ℕ) (keeps′ : (q : ℕ) → (q ≡ n → ⊥) → Could g s q → Could g t q ⊎ (find (t .workers) q ≡ none)) (es fs new : List Entry) (kept : Kept t es fs) (not-dead : (q : ℕ) → Mem (worker q) fs → find (t .workers) q ≡ none → ⊥) (w : Woken g n s t new)
+    (once : Distinct (worker n ∷ es)) (able : (q : ℕ) → Mem (worker q) es → Could g s q) (all : (q : ℕ) → Could g s q → Mem (worker q) (worker n ∷ es)) where
+  other : (q : ℕ) → Mem (worker q) es → q ≡ n → ⊥
+  other q m e = once .0 (subst (λ z. Mem (worker z) es) e m)
+  pub now-able : (q : ℕ) → Mem (worker q) (fs ++ new) → (q ≡ n → ⊥) × Could g t q
+  now-able q m = go (Mem-split fs m)
+    where
+      old : Mem (worker q) fs → Could g t q ⊎ (find (t .workers) q ≡ none) → Could g t q
+      old a (inl c) = c
+      old a (inr e) = absurd (not-dead q a e)
+      go : Mem (worker q) fs ⊎ Mem (worker q) new → (q ≡ n → ⊥) × Could g t q
+      go (inl a) = let b = kept-from kept (worker q) a in (other q b, old a (keeps′ q (other q b) (able q b)))
+      go (inr a) = let b = w .each (worker q) a in let e : b .0 ≡ q = cc (b .1) in (subst (λ z. z ≡ n → ⊥) e (b .2), subst (Could g t) e (b .3))
+  now-once : Distinct (fs ++ new)
+  now-once = Distinct-append fs new (kept-distinct kept (once .1)) (w .once) (λ x a b. let c = w .each x b in c .4 (able (c .0) (subst (λ z. Mem z es) (c .1) (kept-from kept x a))))
+  pub now-all : (q : ℕ) → (q ≡ n → ⊥) → Could g t q → Mem (worker q) (fs ++ new)
+  now-all q d c = go (w .all q d c)
+    where
+      mem : (worker q ≡ worker n) ⊎ Mem (worker q) es → Mem (worker q) es
+      mem (inl e) = let y : q ≡ n = cc in absurd (d y)
+      mem (inr a) = a
+      go : Could g s q ⊎ Mem (worker q) new → Mem (worker q) (fs ++ new)
+      go (inl a) = Mem-left new (kept-to g kept q c (mem (Mem-cases (all q a))))
+      go (inr a) = Mem-right fs a
+  not-n : Mem (worker n) (fs ++ new) → ⊥
+  not-n m = now-able n m .0 refl
+  pub go-on : (k : ℕ) → k ≤ slice → Could g t n → Mem round (fs ++ new) → Queues g t (serve n k) (fs ++ new)
+  go-on k le c r = record { once = (not-n, now-once); able = λ q m. a q (Mem-cases m); all = λ q d. b q d (either q n); rounds = r; small = le }
+    where
+      a : (q : ℕ) → (worker q ≡ worker n) ⊎ Mem (worker q) (fs ++ new) → Could g t q
+      a q (inl e) = let y : n ≡ q = cc in subst (Could g t) y c
+      a q (inr m) = now-able q m .1
+      b : (q : ℕ) → Could g t q → (q ≡ n) ⊎ (q ≡ n → ⊥) → Mem (worker q) (worker n ∷ (fs ++ new))
+      b q d (inl e) = (zero, subst (λ z. At (worker q) zero (worker z ∷ (fs ++ new))) e here)
+      b q d (inr f) = behind (worker n) (now-all q f d)
+  pub over : (k : ℕ) → k ≤ batch → (Could g t n → ⊥) → Mem round (fs ++ new) → Queues g t (flush k) (fs ++ new)
+  over k le c r = record { once = now-once; able = λ q m. now-able q m .1; all = λ q d. now-all q (λ e. c (subst (Could g t) e d)) d; rounds = r; small = le }
+  at-the-end : (x : Entry) → Distinct (fs ++ new) → (Mem x (fs ++ new) → ⊥) → Distinct (fs ++ (new ++ (x ∷ [])))
+  at-the-end x d h = subst Distinct (append-assoc fs new (x ∷ [])) (Distinct-append (fs ++ new) (x ∷ []) d ((λ m. At-none (m .1)), tt) (λ y a b. side y a (Mem-cases b)))
+    where
+      side : (y : Entry) → Mem y (fs ++ new) → (y ≡ x) ⊎ Mem y [] → ⊥
+      side y a (inl e) = h (subst (λ z. Mem z (fs ++ new)) e a)
+      side y a (inr b) = At-none (b .1)
+  pub in-end : (x y : Entry) → Mem y (fs ++ (new ++ (x ∷ []))) → Mem y (fs ++ new) ⊎ (y ≡ x)
+  in-end x y m = go (Mem-split (fs ++ new) (subst (Mem y) (sym (append-assoc fs new (x ∷ []))) m))
+    where
+      one : (y ≡ x) ⊎ Mem y [] → Mem y (fs ++ new) ⊎ (y ≡ x)
+      one (inl e) = inr e
+      one (inr a) = absurd (At-none (a .1))
+      go : Mem y (fs ++ new) ⊎ Mem y (x ∷ []) → Mem y (fs ++ new) ⊎ (y ≡ x)
+      go (inl a) = inl a
+      go (inr b) = one (Mem-cases b)
+  pub to-end : (x y : Entry) → Mem y (fs ++ new) → Mem y (fs ++ (new ++ (x ∷ [])))
+  to-end x y m = subst (Mem y) (append-assoc fs new (x ∷ [])) (Mem-left (x ∷ []) m)
+  pub last-one : (x : Entry) → Mem x (fs ++ (new ++ (x ∷ [])))
+  last-one x = Mem-right fs (Mem-right new (zero, here))
+  pub back : (k : ℕ) → k ≤ batch → Could g t n → Mem round (fs ++ new) → Queues g t (flush k) (fs ++ (new ++ (worker n ∷ [])))
+  back k le c r = record { once = at-the-end (worker n) now-once not-n; able = λ q m. a q (in-end (worker n) (worker q) m); all = λ q d. b q d (either q n); rounds = to-end (worker n) round r; small = le }
+    where
+      a : (q : ℕ) → Mem (worker q) (fs ++ new) ⊎ (worker q ≡ worker n) → Could g t q
+      a q (inl m) = now-able q m .1
+      a q (inr e) = let y : n ≡ q = cc in subst (Could g t) y c
+      b : (q : ℕ) → Could g t q → (q ≡ n) ⊎ (q ≡ n → ⊥) → Mem (worker q) (fs ++ (new ++ (worker n ∷ [])))
+      b q d (inl e) = subst (λ z. Mem (worker z) (fs ++ (new ++ (worker n ∷ [])))) (sym e) (last-one (worker n))
+      b q d (inr f) = to-end (worker n) (worker q) (now-all q f d)
+  pub ticked : (k : ℕ) → k ≤ batch → (Could g t n → ⊥) → (Mem round (fs ++ new) → ⊥) → Queues g t (flush k) (fs ++ (new ++ (round ∷ [])))
+  ticked k le c r = record { once = at-the-end round now-once r; able = λ q m. a q (in-end round (worker q) m); all = λ q d. to-end round (worker q) (now-all q (λ e. c (subst (Could g t) e d)) d); rounds = last-one round; small = le }
+    where
+      a : (q : ℕ) → Mem (worker q) (fs ++ new) ⊎ (worker q ≡ round) → Could g t q
+      a q (inl m) = now-able q m .1
+      a q (inr e) = let z : _≡_ {A = ℕ} 0 1 = cc in absurd (omega arith)

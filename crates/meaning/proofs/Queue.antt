@@ -1,0 +1,120 @@
+-- Places in the queue, what is kept, and how long it can be.
+use mathlib.Core.Path.{_≡_, refl, sym, ap, subst, _∙_}
+use mathlib.Core.Logic.{_⊎_, inl, inr}
+use mathlib.Core.Bool.{true, cond}
+use mathlib.Core.List.{List, [], _∷_, _++_}
+use mathlib.Core.Option.{some, none}
+use Prim.Native.Nat.{ℕ, zero, suc, _+_, _<_, _≤_}
+use native.Mathlib.Omega.{arith}
+use native.Mathlib.Decide.{ℕ-discrete}
+use lib.ListN.{length}
+use Rattle.meaning.specs.Syntax.{Program}
+use Rattle.meaning.specs.System.{Worker, System, find}
+use Rattle.meaning.specs.Turns.{can}
+use Rattle.meaning.specs.Fair.{Could, able}
+use Rattle.meaning.specs.Scheduler.{Entry, round, worker, At, here, there, Mem, Distinct, Kept, end, keep, leave}
+use Rattle.meaning.proofs.Finding.{find-here, find-there}
+
+pub At-cases : {x y : Entry} {n : ℕ} {es : List Entry} → At x n (y ∷ es) → (x ≡ y) ⊎ ((k : ℕ) × (n ≡ suc k) × At x k es)
+At-cases here = inl refl
+At-cases (there {n = k} a) = inr (k, refl, a)
+pub At-none : {x : Entry} {n : ℕ} → At x n [] → ⊥
+At-none a = elim a as (λ n es b. is-none es → ⊥) [ here ↦ λ e. e | there b ↦ λ e. e ] tt
+  where
+    is-none : List Entry → Type 0
+    is-none [] = Unit {0}
+    is-none (x ∷ es) = ⊥
+pub At-append : {x : Entry} {n : ℕ} {es : List Entry} (fs : List Entry) → At x n es → At x n (es ++ fs)
+At-append fs here = here
+At-append fs (there a) = there (At-append fs a)
+pub At-length : {x : Entry} {n : ℕ} {es : List Entry} → At x n es → n < length es
+At-length {es = es} here = omega arith
+At-length (there a) = let h = At-length a in omega arith
+
+-- what is kept stands no further back
+module _ (g : Program) (s : System) where
+  abbrev pub Stays : Entry → Type 0
+  Stays round = Unit {0}
+  Stays (worker p) = Could g s p
+  not-both : (p : ℕ) → find (s .workers) p ≡ none → Could g s p → ⊥
+  not-both p e c = let z : _≡_ {A = ℕ} 0 1 = cc (c .1) in omega arith
+  abbrev pub Nearer : Entry → ℕ → List Entry → Type 0
+  Nearer x n fs = (k : ℕ) × (k ≤ n) × At x k fs
+  pub kept : {es fs : List Entry} (x : Entry) (n : ℕ) → Stays x → Kept s es fs → At x n es → Nearer x n fs
+  kept x n c end a = absurd (At-none a)
+  kept x n c (keep {x = y} {es = es} {fs = fs} r) a = go (At-cases a) (λ k b. kept x k c r b)
+    where
+      go : (x ≡ y) ⊎ ((k : ℕ) × (n ≡ suc k) × At x k es) → ((k : ℕ) → At x k es → Nearer x k fs) → Nearer x n (y ∷ fs)
+      go (inl e) ih = (zero, omega arith, subst (λ z. At x zero (z ∷ fs)) e here)
+      go (inr b) ih = let h = ih (b .0) (b .2) in let e = b .1 in let le = h .1 in (suc (h .0), omega arith, there (h .2))
+  kept x n c (leave {p = p} {es = es} {fs = fs} e r) a = go (At-cases a) (λ k b. kept x k c r b)
+    where
+      go : (x ≡ worker p) ⊎ ((k : ℕ) × (n ≡ suc k) × At x k es) → ((k : ℕ) → At x k es → Nearer x k fs) → Nearer x n fs
+      go (inl d) ih = absurd (not-both p e (subst Stays d c))
+      go (inr b) ih = let h = ih (b .0) (b .2) in let d = b .1 in let le = h .1 in (h .0, omega arith, h .2)
+
+-- how many stand in a queue: no more than those that can go on, and the end of the round
+worker-is : {p q : ℕ} → worker p ≡ worker q → p ≡ q
+worker-is e = cc
+decide : (n : ℕ) (y : Entry) → (y ≡ worker n) ⊎ (y ≡ worker n → ⊥)
+decide n round = inr (λ e. let z : _≡_ {A = ℕ} 0 1 = cc in omega arith)
+decide n (worker p) = go (ℕ-discrete p n)
+  where
+    go : Dec (p ≡ n) → (worker p ≡ worker n) ⊎ (worker p ≡ worker n → ⊥)
+    go (yes e) = inl (ap worker e)
+    go (no f) = inr (λ e. f (worker-is e))
+record Pulled (n : ℕ) (es : List Entry) : Type 0 where
+  rest : List Entry
+  was : Mem (worker n) es
+  len : length es ≡ suc (length rest)
+  once : Distinct rest
+  from : (y : Entry) → Mem y rest → Mem y es × (y ≡ worker n → ⊥)
+pub Mem-cases : {x y : Entry} {es : List Entry} → Mem x (y ∷ es) → (x ≡ y) ⊎ Mem x es
+Mem-cases {x} {y} {es} (n, a) = go (At-cases a)
+  where
+    go : (x ≡ y) ⊎ ((k : ℕ) × (n ≡ suc k) × At x k es) → (x ≡ y) ⊎ Mem x es
+    go (inl e) = inl e
+    go (inr b) = inr (b .0, b .2)
+pub behind : {x : Entry} (y : Entry) {es : List Entry} → Mem x es → Mem x (y ∷ es)
+behind y m = (suc (m .0), there (m .1))
+pull : (n : ℕ) (es : List Entry) → Distinct es → (Mem (worker n) es → ⊥) ⊎ Pulled n es
+pull n [] d = inl (λ m. At-none (m .1))
+pull n (y ∷ es) d = go (decide n y) (pull n es (d .1))
+  where
+    go : (y ≡ worker n) ⊎ (y ≡ worker n → ⊥) → (Mem (worker n) es → ⊥) ⊎ Pulled n es → (Mem (worker n) (y ∷ es) → ⊥) ⊎ Pulled n (y ∷ es)
+    go (inl e) ih = inr (record { rest = es; was = (zero, subst (λ z. At z zero (y ∷ es)) e here); len = refl; once = d .1; from = λ z m. (behind y m, λ f. d .0 (subst (λ u. Mem u es) (f ∙ sym e) m)) })
+    go (inr f) (inl h) = inl (λ m. other (Mem-cases m))
+      where
+        other : (worker n ≡ y) ⊎ Mem (worker n) es → ⊥
+        other (inl e) = f (sym e)
+        other (inr m) = h m
+    go (inr f) (inr r) = inr (record { rest = y ∷ r .rest; was = behind y (r .was); len = ap suc (r .len); once = (λ m. d .0 (r .from y m .0), r .once); from = λ z m. other z (Mem-cases m) })
+      where
+        other : (z : Entry) → (z ≡ y) ⊎ Mem z (r .rest) → Mem z (y ∷ es) × (z ≡ worker n → ⊥)
+        other z (inl e) = ((zero, subst (λ u. At u zero (y ∷ es)) (sym e) here), λ k. f (sym e ∙ k))
+        other z (inr m) = (behind y (r .from z m .0), r .from z m .1)
+
+module _ (g : Program) (s : System) where
+  abbrev Can-in : List Worker → ℕ → Type 0
+  Can-in ws p = (w : Worker) × (find ws p ≡ some w) × (can g s w ≡ true)
+  one-at-most : (es : List Entry) → Distinct es → ((p : ℕ) → Mem (worker p) es → ⊥) → length es ≤ 1
+  one-at-most [] d f = omega arith
+  one-at-most (worker p ∷ es) d f = absurd (f p (zero, here))
+  one-at-most (round ∷ []) d f = omega arith
+  one-at-most (round ∷ worker p ∷ es) d f = absurd (f p (behind round (zero, here)))
+  one-at-most (round ∷ round ∷ es) d f = absurd (d .0 (zero, here))
+  pub long : (ws : List Worker) (es : List Entry) → Distinct es → ((p : ℕ) → Mem (worker p) es → Can-in ws p) → length es ≤ 1 + able g s ws
+  long [] es d c = let h = one-at-most es d (λ p m. let z : _≡_ {A = ℕ} 0 1 = cc (c p m .1) in omega arith) in omega arith
+  long (w ∷ ws) es d c = go (pull (w .pid) es d) (λ fs. long ws fs)
+    where
+      past : (p : ℕ) → (p ≡ w .pid → ⊥) → Can-in (w ∷ ws) p → Can-in ws p
+      past p f h = (h .0, sym (find-there w ws p (λ e. f (sym e))) ∙ h .1, h .2)
+      go : (Mem (worker (w .pid)) es → ⊥) ⊎ Pulled (w .pid) es → ((fs : List Entry) → Distinct fs → ((p : ℕ) → Mem (worker p) fs → Can-in ws p) → length fs ≤ 1 + able g s ws) → length es ≤ 1 + able g s (w ∷ ws)
+      go (inl h) ih = let k : length es ≤ 1 + able g s ws = ih es d (λ p m. past p (λ e. h (subst (λ q. Mem (worker q) es) e m)) (c p m)) in omega arith
+      go (inr r) ih =
+        let k : length (r .rest) ≤ 1 + able g s ws = ih (r .rest) (r .once) (λ p m. past p (λ e. r .from (worker p) m .1 (ap worker e)) (c p (r .from (worker p) m .0))) in
+        let h = c (w .pid) (r .was) in
+        let e : h .0 ≡ w = cc (h .1, find-here w ws (w .pid) refl) in
+        let y : _≡_ {A = ℕ} (cond {A = ℕ} (can g s w) 1 0) 1 = ap (λ b. cond {A = ℕ} b 1 0) (subst (λ z. can g s z ≡ true) e (h .2)) in
+        let n = r .len in
+        omega arith
