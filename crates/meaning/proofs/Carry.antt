@@ -11,7 +11,7 @@ use Rattle.meaning.specs.Syntax.{Program}
 use Rattle.meaning.specs.System.{Worker, System, find}
 use Rattle.meaning.specs.Turns.{can}
 use Rattle.meaning.specs.Fair.{Could}
-use Rattle.meaning.specs.Scheduler.{Entry, round, worker, serve, flush, slice, batch, At, here, Mem, Distinct, Kept, end, keep, leave, Queues}
+use Rattle.meaning.specs.Scheduler.{alive, Woken, Entry, round, worker, serve, flush, slice, batch, At, here, Mem, Distinct, Kept, end, keep, leave, Queues}
 use Rattle.meaning.proofs.Queue.{At-none, At-append, Mem-cases, behind}
 use Rattle.meaning.proofs.Ready.{can-is, ready, ready-more}
 use Rattle.meaning.proofs.Past.{Now, Past}
@@ -52,10 +52,6 @@ Distinct-append (x ∷ es) fs d e h = (λ m. go (Mem-split es m), Distinct-appen
     go (inl a) = d .0 a
     go (inr b) = h x (zero, here) b
 -- those that are no more are left out
-abbrev pub alive : System → List Entry → List Entry
-alive s [] = []
-alive s (round ∷ es) = round ∷ alive s es
-alive s (worker p ∷ es) = opt (find (s .workers) p) (alive s es) (λ w. worker p ∷ alive s es)
 pub alive-kept : (s : System) (es : List Entry) → Kept s es (alive s es)
 alive-kept s [] = end
 alive-kept s (round ∷ es) = keep (alive-kept s es)
@@ -102,11 +98,6 @@ kept-round {s} (leave {p = q} {es = es} {fs = fs} e k) m = go (Mem-cases m) (kep
     go (inr a) ih = ih a
 
 -- those that became able by a move, but for n
-pub record Woken (g : Program) (n : ℕ) (s t : System) (new : List Entry) : Type 0 where
-  pub once : Distinct new
-  pub each : (x : Entry) → Mem x new → (q : ℕ) × (x ≡ worker q) × (q ≡ n → ⊥) × Could g t q × (Could g s q → ⊥)
-  pub all : (q : ℕ) → (q ≡ n → ⊥) → Could g t q → Could g s q ⊎ Mem (worker q) new
-
 pub alive-not : (t : System) (es : List Entry) (q : ℕ) → Mem (worker q) (alive t es) → find (t .workers) q ≡ none → ⊥
 alive-not t [] q m e = At-none (m .1)
 alive-not t (round ∷ es) q m e = go (Mem-cases m) (λ a. alive-not t es q a e)

@@ -21,3 +21,5 @@ pub mod Start
 pub mod Scan
 pub mod Progress
 pub mod Lines
+pub mod Scheduling
+pub mod Examples

@@ -16,13 +16,13 @@ use Rattle.meaning.specs.System.{for-ever, until, Control, eval, give, enter, 
 use Rattle.meaning.specs.Turns.{take-first, Taken}
 use Rattle.meaning.specs.Moves.{turn, signal, tick, is, not-allowed, move, time-of, sooner, first-time}
 use Rattle.meaning.specs.Fair.{Could, Waits-later}
-use Rattle.meaning.specs.Scheduler.{Numbered, Before, first, next, Due, Good, Entry, round, worker, serve, flush, slice, batch, here, Mem, Distinct, Kept, end, keep, leave, Queues, Step, by-turn, by-signal, by-tick, by-round, by-pop, same-slice, slice-over, Idle}
+use Rattle.meaning.specs.Scheduler.{alive, Woken, Numbered, Before, first, next, Due, Good, Entry, round, worker, serve, flush, slice, batch, here, Mem, Distinct, Kept, end, keep, leave, Queues, Step, by-turn, by-signal, by-tick, by-round, by-pop, same-slice, slice-over, Idle}
 use Rattle.meaning.proofs.Queue.{At-none, Mem-cases, behind}
 use Rattle.meaning.proofs.Finding.{find-here, find-there}
 use Rattle.meaning.proofs.Ready.{can-is, ready, due}
 use Rattle.meaning.proofs.Past.{More, More-same, Now, Past, after-turn, after-signal, some-or-none}
 use Rattle.meaning.proofs.Splits.{either}
-use Rattle.meaning.proofs.Carry.{still, keeps, not-both, Mem-left, Mem-right, Mem-split, alive, alive-kept, alive-not, kept-round, Woken, go-on, over, back, ticked, now-all, Distinct-append}
+use Rattle.meaning.proofs.Carry.{still, keeps, not-both, Mem-left, Mem-right, Mem-split, alive-kept, alive-not, kept-round, go-on, over, back, ticked, now-all, Distinct-append}
 
 Before-cases : {x y z : Entry} {es : List Entry} → Before x y (z ∷ es) → ((x ≡ z) × Mem y es) ⊎ Before x y es
 Before-cases (first m) = inl (refl, m)

@@ -11,14 +11,14 @@ use Rattle.meaning.specs.Basics.{opt}
 use Rattle.meaning.specs.Syntax.{Program}
 use Rattle.meaning.specs.System.{Worker, Signal, System, find, with-signals, with-clock, Apart}
 use Rattle.meaning.specs.Turns.{Outcome, goes-on, leaves, stuck, can, turn-of}
-use Rattle.meaning.specs.Moves.{settle, Move, turn, signal, tick, Result, is, not-allowed, no-meaning, move, deliver, take-signal, time-of, first-time, quiet}
+use Rattle.meaning.specs.Moves.{settle, turn, signal, tick, Result, is, not-allowed, no-meaning, move, deliver, take-signal, time-of, first-time, quiet}
 use Rattle.meaning.specs.Fair.{Could, Waits-later}
-use Rattle.meaning.specs.Scheduler.{Numbered, Good, Due, Entry, round, worker, Mode, serve, flush, slice, batch, At, here, Mem, Distinct, Step, Idle}
+use Rattle.meaning.specs.Scheduler.{Woken, Numbered, Good, Due, Entry, round, worker, Mode, serve, flush, slice, batch, At, here, Mem, Distinct, Step, Idle}
+use Rattle.meaning.specs.Rounds.{Budget, Soon, now, after}
 use Rattle.meaning.proofs.Queue.{At-none, Mem-cases, behind}
 use Rattle.meaning.proofs.Finding.{find-here, find-there, find-pid}
 use Rattle.meaning.proofs.Splits.{either}
 use Rattle.meaning.proofs.Past.{after-turn, after-signal}
-use Rattle.meaning.proofs.Carry.{Woken}
 use Rattle.meaning.proofs.Model.{turn-on, turn-back, turn-over, signalled, at-round, time-goes, next-round, popped}
 use Rattle.meaning.proofs.Scan.{newly, woken-time, quiet-now}
 use Rattle.meaning.proofs.Start.{due-turn}
@@ -141,13 +141,6 @@ due-or-not s q = one (find (s .workers) q) refl
     one none e = inr (λ d. let f = d .2 in let z : _≡_ {A = ℕ} 0 1 = cc in omega arith)
     one (some w) e = two w e (time-of (w .control)) refl
 
--- a slice goes on while two turns are left, or one and the worker's time has come
-abbrev pub Budget : System → Mode → Type 0
-Budget s (serve n k) = (2 ≤ k) ⊎ ((k ≡ 1) × Due s n)
-Budget s (flush k) = Unit {0}
-pub data Soon (g : Program) (s : System) : Mode → List Entry → Type 0 where
-  now : {m m′ : Mode} {es es′ : List Entry} {x : Move} {s′ : System} → Step g s m es (x ∷ []) s′ m′ es′ → Good g s′ m′ es′ → Budget s′ m′ → Soon g s m es
-  then : {m m′ : Mode} {es es′ : List Entry} → Step g s m es [] s m′ es′ → Good g s m′ es′ → Soon g s m′ es′ → Soon g s m es
 turn-allowed : (g : Program) (s : System) (n : ℕ) → Could g s n → move g s (turn n) ≡ not-allowed → ⊥
 turn-allowed g s n (w, f, c) h = inner (turn-of g s w) c (sym (ap (λ o. opt o not-allowed (λ y. opt (turn-of g s y) not-allowed (settle n))) f) ∙ h)
   where
@@ -185,7 +178,7 @@ pop-soon : (g : Program) (s : System) (k p : ℕ) (es : List Entry) → Good g s
 pop-soon g s k p es i idle = go (turn-soon g s p 2047 es (popped g s k p slice es i idle (omega arith) .1) (inl (omega arith)))
   where
     go : Soon g s (serve p 2048) es ⊎ No-meaning g s → Soon g s (flush k) (worker p ∷ es) ⊎ No-meaning g s
-    go (inl y) = let z = popped g s k p slice es i idle (omega arith) in inl (then (z .0) (z .1) y)
+    go (inl y) = let z = popped g s k p slice es i idle (omega arith) in inl (after (z .0) (z .1) y)
     go (inr y) = inr y
 signal-soon : (g : Program) (s : System) (k : ℕ) (es : List Entry) (x : Signal) (gs : List Signal) → s .signals ≡ x ∷ gs → Good g s (flush (suc k)) es → Soon g s (flush (suc k)) es
 signal-soon g s k es x gs h i = go (find (s .workers) (x .to)) refl
@@ -205,13 +198,13 @@ round-soon : (g : Program) (s : System) (k : ℕ) (es : List Entry) → Good g s
 round-soon g s k es i idle = go (at-round g s k es i)
   where
     on : first-time (s .workers) ≡ none → (Waits-later s → ⊥) → (gs : List Signal) → s .signals ≡ gs → (fs : List Entry) → es ≡ fs → Comes-on g s (flush k) (round ∷ es)
-    on h f (x ∷ gs) e fs d = let y = next-round g s k es i idle f in inl (then (y .0) (y .1) (signal-soon g s 1023 (es ++ (round ∷ [])) x gs e (y .1)))
+    on h f (x ∷ gs) e fs d = let y = next-round g s k es i idle f in inl (after (y .0) (y .1) (signal-soon g s 1023 (es ++ (round ∷ [])) x gs e (y .1)))
     on h f [] e [] d = inr (inr (quiet-now g s k (subst (λ z. Good g s (flush k) (round ∷ z)) d i) e h))
     on h f [] e (round ∷ fs) d = absurd (i .exact .once .0 (subst (Mem round) (sym d) (zero, here)))
     on h f [] e (worker p ∷ fs) d = let y = next-round g s k es i idle f in side (y .0) (y .1) (subst (λ z. Soon g s (flush batch) (z ++ (round ∷ [])) ⊎ No-meaning g s) (sym d) (pop-soon g s batch p (fs ++ (round ∷ [])) (subst (λ z. Good g s (flush batch) (z ++ (round ∷ []))) d (y .1)) (inr e)))
       where
         side : Step g s (flush k) (round ∷ es) [] s (flush batch) (es ++ (round ∷ [])) → Good g s (flush batch) (es ++ (round ∷ [])) → Soon g s (flush batch) (es ++ (round ∷ [])) ⊎ No-meaning g s → Comes-on g s (flush k) (round ∷ es)
-        side a b (inl y) = inl (then a b y)
+        side a b (inl y) = inl (after a b y)
         side a b (inr y) = inr (inl y)
     go : ((first-time (s .workers) ≡ none) × (Waits-later s → ⊥)) ⊎ ((u : ℕ) × (s .clock < u) × (first-time (s .workers) ≡ some u) × (move g s tick ≡ is (with-clock s u))) → Comes-on g s (flush k) (round ∷ es)
     go (inl (h, f)) = on h f (s .signals) refl es refl

@@ -13,12 +13,11 @@ use Rattle.meaning.specs.System.{Worker, System, find, with-clock, Apart}
 use Rattle.meaning.specs.Turns.{can}
 use Rattle.meaning.specs.Moves.{any-can, first-time, no-signals, quiet}
 use Rattle.meaning.specs.Fair.{Could}
-use Rattle.meaning.specs.Scheduler.{Numbered, Good, Entry, round, worker, flush, At, here, Mem, Distinct}
+use Rattle.meaning.specs.Scheduler.{Woken, alive, Numbered, Good, Entry, round, worker, flush, At, here, Mem, Distinct}
 use Rattle.meaning.proofs.Queue.{At-none, Mem-cases, behind}
 use Rattle.meaning.proofs.Finding.{find-here, find-there}
 use Rattle.meaning.proofs.Splits.{either}
 use Rattle.meaning.proofs.Past.{Past, below-next}
-use Rattle.meaning.proofs.Carry.{Woken, alive}
 
 abbrev pub newly : Program → System → System → List Worker → List Entry
 newly g s t [] = []

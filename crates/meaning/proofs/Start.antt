@@ -24,7 +24,7 @@ use Rattle.meaning.proofs.Ready.{can-is, ready}
 use Rattle.meaning.proofs.Splits.{either}
 
 -- the moves of steps
-moves-append : (g : Program) (s : System) (l r : List Move) → moves g s (l ++ r) ≡ on-is (moves g s l) (λ t. moves g t r)
+pub moves-append : (g : Program) (s : System) (l r : List Move) → moves g s (l ++ r) ≡ on-is (moves g s l) (λ t. moves g t r)
 moves-append g s [] r = refl
 moves-append g s (x ∷ l) r = go (move g s x) (λ t. moves-append g t l r)
   where
@@ -84,7 +84,7 @@ first-good g c (young, ready-c) = record { numbered = ((refl, tt), λ q l. find-
     two p (inl e) = let y : 0 ≡ p = cc in (first-worker c, find-here (first-worker c) [] p y, can-is g (first-sys g c) (first-worker c) ∙ ready-c 0 [])
     two p (inr m) = absurd (three p (Mem-cases m))
     never : (q : ℕ) → Due (first-sys g c) q → ⊥
-    never q (x, u, f, e, l) = let y = only (first-worker c) x q f .1 in let z : _≡_ {A = ℕ} 0 1 = cc (ap (λ v. time-of (v .control)) y) in omega arith
+    never q (x, u, f, e, l) = let y = only (first-worker c) x q f .1 in let z : _≡_ {A = ℕ} 0 1 = cc in omega arith
 pub so-far-none : (g : Program) (b : System) → begin g ≡ some b → So-far g b [] b (flush 0) (worker 0 ∷ round ∷ [])
 so-far-none g b h = go (enter-function g (first-name g) 1 a-main []) (begun-code g (first-name g) 1 a-main []) h
   where

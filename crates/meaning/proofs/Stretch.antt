@@ -10,7 +10,8 @@ use Rattle.meaning.specs.Syntax.{Program}
 use Rattle.meaning.specs.System.{System}
 use Rattle.meaning.specs.Moves.{Move, turn, signal, tick, is, on-is, move, moves}
 use Rattle.meaning.specs.Fair.{Could, Waits-later, able, In, here, there, All-through, Fair}
-use Rattle.meaning.specs.Scheduler.{Entry, round, worker, Mode, serve, flush, batch, At, Mem, queued, Queues, Small, Idle, After, same-slice, slice-over, Step, by-turn, by-signal, by-tick, by-round, by-pop, Steps, start, and-step, Fair-always}
+use Rattle.meaning.specs.Scheduler.{Entry, round, worker, Mode, serve, flush, batch, At, Mem, queued, Queues, Small, Idle, After, same-slice, slice-over, Step, by-turn, by-signal, by-tick, by-round, by-pop, Steps, start, and-step}
+use Rattle.meaning.specs.Rounds.{Fair-always}
 use Rattle.meaning.proofs.Queue.{At-cases, At-append, At-length, kept, long, Stays, Mem-cases}
 
 -- what is still to come: steps, and perhaps one move of any kind

@@ -12,13 +12,13 @@ use Rattle.meaning.specs.Values.{Value, Binding}
 use Rattle.meaning.specs.System.{Until, Control, eval, give, enter, fail, wait, Scope, Worker, System, find, change, on-worker, add-mail, ended, with-new}
 use Rattle.meaning.specs.Turns.{can, take-first, Taken, Chosen, choose, keep-front}
 use Rattle.meaning.specs.Fair.{Could}
-use Rattle.meaning.specs.Scheduler.{Numbered, Good, next, Entry, round, worker, serve, here, Mem}
+use Rattle.meaning.specs.Scheduler.{Woken, alive, Numbered, Good, next, Entry, round, worker, serve, here, Mem}
 use Rattle.meaning.proofs.Queue.{behind}
 use Rattle.meaning.proofs.Finding.{find-here, find-there, Keeps, find-change-other, find-changed, find-append-some, find-append-none, find-gone-other}
 use Rattle.meaning.proofs.Ready.{can-is, ready, due, has, has-front}
 use Rattle.meaning.proofs.Past.{some-or-none}
 use Rattle.meaning.proofs.Splits.{either}
-use Rattle.meaning.proofs.Carry.{Woken, not-both, alive}
+use Rattle.meaning.proofs.Carry.{not-both}
 use Rattle.meaning.proofs.Model.{woken-none, woken-one, same-could}
 
 -- nobody but n is seen changed

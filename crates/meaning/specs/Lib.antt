@@ -16,3 +16,5 @@ pub mod Promise
 pub mod Fair
 pub mod Effects
 pub mod Scheduler
+pub mod Rounds
+pub mod Worked

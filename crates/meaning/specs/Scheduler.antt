@@ -1,14 +1,15 @@
--- The scheduler's model: a queue of those that can go on, served in rounds; and that every order of moves it makes is fair.
+-- The scheduler's model: a queue of those that can go on, served in rounds.
 use mathlib.Core.Path.{_≡_}
 use mathlib.Core.Logic.{_⊎_}
 use mathlib.Core.Bool.{Bool, true, false}
 use mathlib.Core.List.{List, [], _∷_, _++_}
 use mathlib.Core.Option.{Option, some, none}
 use Prim.Native.Nat.{ℕ, zero, suc, _+_, _<_, _≤_}
+use Rattle.meaning.specs.Basics.{opt}
 use Rattle.meaning.specs.Syntax.{Program}
 use Rattle.meaning.specs.System.{Worker, System, find, Apart}
 use Rattle.meaning.specs.Moves.{Move, turn, signal, tick, is, move, time-of}
-use Rattle.meaning.specs.Fair.{Could, Waits-later, Fair}
+use Rattle.meaning.specs.Fair.{Could, Waits-later}
 
 -- what stands in the queue: a worker, or the end of a round
 pub data Entry : Type 0 where
@@ -45,6 +46,18 @@ pub data Kept (s : System) : List Entry → List Entry → Type 0 where
   end : Kept s [] []
   keep : {x : Entry} {es fs : List Entry} → Kept s es fs → Kept s (x ∷ es) (x ∷ fs)
   leave : {p : ℕ} {es fs : List Entry} → find (s .workers) p ≡ none → Kept s es fs → Kept s (worker p ∷ es) fs
+
+-- the queue without those that are no more
+abbrev pub alive : System → List Entry → List Entry
+alive s [] = []
+alive s (round ∷ es) = round ∷ alive s es
+alive s (worker p ∷ es) = opt (find (s .workers) p) (alive s es) (λ w. worker p ∷ alive s es)
+
+-- the workers other than n that can go on after a move from s to t and could not before, once each
+pub record Woken (g : Program) (n : ℕ) (s t : System) (new : List Entry) : Type 0 where
+  pub once : Distinct new
+  pub each : (x : Entry) → Mem x new → (q : ℕ) × (x ≡ worker q) × (q ≡ n → ⊥) × Could g t q × (Could g s q → ⊥)
+  pub all : (q : ℕ) → (q ≡ n → ⊥) → Could g t q → Could g s q ⊎ Mem (worker q) new
 
 -- with the one that is served
 abbrev pub queued : Mode → List Entry → List Entry
@@ -117,9 +130,3 @@ pub record So-far (g : Program) (b : System) (l : List Move) (s : System) (m : M
   pub steps : Steps g b (flush 0) (worker 0 ∷ round ∷ []) l s m es
   pub first : Good g b (flush 0) (worker 0 ∷ round ∷ [])
   pub good : Good g s m es
-
--- whatever order of moves the steps make is fair, and so it is with any one move more
-abbrev pub Fair-always : Type 0
-Fair-always =
-    (g : Program) (s₀ s : System) (m₀ m : Mode) (es₀ es : List Entry) (l : List Move) → Queues g s₀ m₀ es₀ →
-    Steps g s₀ m₀ es₀ l s m es → Fair g s₀ l × ((x : Move) → Fair g s₀ (l ++ (x ∷ [])))

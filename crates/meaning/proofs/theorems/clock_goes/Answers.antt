@@ -1,0 +1,5 @@
+use Rattle.meaning.proofs.Calm.{clock-goes}
+use Rattle.meaning.proofs.theorems.clock_goes.Needs as need
+
+pub returns : need.returns
+returns c = clock-goes

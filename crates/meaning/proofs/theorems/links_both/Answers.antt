@@ -1,0 +1,5 @@
+use Rattle.meaning.proofs.Parts.{links-both}
+use Rattle.meaning.proofs.theorems.links_both.Needs as need
+
+pub returns : need.returns
+returns c = links-both

@@ -1,0 +1,5 @@
+use Rattle.meaning.proofs.Meant.{never-stuck}
+use Rattle.meaning.proofs.theorems.never_stuck.Needs as need
+
+pub returns : need.returns
+returns c = never-stuck

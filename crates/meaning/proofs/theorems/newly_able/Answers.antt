@@ -1,0 +1,5 @@
+use Rattle.meaning.proofs.Calm.{newly-able}
+use Rattle.meaning.proofs.theorems.newly_able.Needs as need
+
+pub returns : need.returns
+returns c = newly-able

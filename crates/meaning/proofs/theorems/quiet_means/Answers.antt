@@ -1,0 +1,5 @@
+use Rattle.meaning.proofs.Calm.{quiet-means}
+use Rattle.meaning.proofs.theorems.quiet_means.Needs as need
+
+pub returns : need.returns
+returns c = quiet-means
