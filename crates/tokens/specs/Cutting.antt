@@ -1,0 +1,72 @@
+-- What a token is spelled as, and what it is to cut a text at its first token.
+use mathlib.Core.Path.{_≡_}
+use mathlib.Core.Bool.{true, false}
+use mathlib.Core.List.{List, [], _∷_, _++_}
+use Prim.Native.Nat.{ℕ, _<_}
+use lib.Dec.{eqb}
+use lib.ListN.{length, getD, take}
+use lib.Chars.{codes}
+use Rattle.meaning.specs.Basics.{Name}
+use Rattle.meaning.specs.Grammar.{all-letters}
+use Rattle.meaning.specs.Tokens.{is-letter, is-blank, joins, Lexing, tokens, gap}
+use Rattle.tokens.specs.declared.token.Sign.{Sign}
+use Rattle.tokens.specs.declared.token.Sign.the-variants.{Arrow, DoubleColon, Equal, Unequal, AtMost}
+use Rattle.tokens.specs.declared.token.Token.{Token}
+use Rattle.tokens.specs.declared.token.Token.the-variants as token
+
+abbrev pub sign-bytes : Sign → Name
+sign-bytes Arrow = codes "->"
+sign-bytes DoubleColon = codes "::"
+sign-bytes Equal = codes "=="
+sign-bytes Unequal = codes "!="
+sign-bytes AtMost = codes "<="
+
+-- the bytes of a token
+abbrev pub spelling : Token → Name
+spelling (token.Word w) = w .now
+spelling (token.Sign s) = sign-bytes s
+spelling (token.Byte b) = b ∷ []
+
+-- a byte that begins a token: no blank, and not the # that begins a comment
+pub record Begins (c : ℕ) : Type 0 where
+  pub no-blank : is-blank c ≡ false
+  pub no-comment : eqb c 35 ≡ false
+
+-- A token has its one form: a word is of letters, and a byte that stands alone is none.
+abbrev pub Proper : Token → Type 0
+Proper (token.Word w) = (0 < length (w .now)) × (all-letters (w .now) ≡ true)
+Proper (token.Sign s) = Unit {0}
+Proper (token.Byte b) = Begins b × (is-letter b ≡ false)
+
+-- The bytes complete no token, and behind them reading goes on in another way.
+abbrev pub Skips : Lexing → List ℕ → Lexing → Type 0
+Skips m skipped n = (rest : List ℕ) → tokens m (skipped ++ rest) ≡ tokens n rest
+
+-- where the first token of a text begins
+pub record Starts (text : List ℕ) (at : ℕ) : Type 0 where
+  pub skips : Skips gap (take at text) gap
+  pub within : at < length text
+  pub begins : Begins (getD text at 0)
+
+-- the first two bytes of the text make the sign; or they make none
+pub record Joined (text : List ℕ) (s : Sign) : Type 0 where
+  pub two : 1 < length text
+  pub join : joins (getD text 0 0) (getD text 1 0) ≡ true
+  pub bytes : sign-bytes s ≡ getD text 0 0 ∷ getD text 1 0 ∷ []
+
+abbrev pub Unjoined : List ℕ → Type 0
+Unjoined text = 1 < length text → joins (getD text 0 0) (getD text 1 0) ≡ false
+
+-- the text begins with the token, and the rest follows
+pub record Leads (text : List ℕ) (t : Token) (rest : List ℕ) : Type 0 where
+  pub place : text ≡ spelling t ++ rest
+  pub cut : tokens gap text ≡ spelling t ∷ tokens gap rest
+  pub proper : Proper t
+
+-- The first token of the text stands behind the skipped bytes, which hold none, and the rest follows it.
+pub record First (text : List ℕ) (skipped : ℕ) (t : Token) (rest : List ℕ) : Type 0 where
+  pub before : tokens gap (take skipped text) ≡ []
+  pub place : text ≡ take skipped text ++ (spelling t ++ rest)
+  pub cut : tokens gap text ≡ spelling t ∷ tokens gap rest
+  pub proper : Proper t
+  pub shorter : length rest < length text

@@ -1,0 +1,10 @@
+//! Cuts a text into tokens, one at a time, and says on which line and column a byte stands.
+
+mod bytes;
+mod next;
+mod token;
+
+pub use next::next_token;
+pub use token::Lexeme;
+pub use token::Sign;
+pub use token::Token;
