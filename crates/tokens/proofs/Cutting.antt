@@ -18,6 +18,7 @@ use Rattle.meaning.specs.Tokens.{is-letter, begins-sign, joins, gap, word, sign
 use Rattle.std.proofs.shelf.Lists.{take-append-drop, length-take-le, length-append, length-drop, getD-drop}
 use Rattle.std.proofs.shelf.Sums.{leading-le-length}
 use denote.Ref.{RefT}
+use Rattle.tokens.specs.declared.token.Lexeme.{Lexeme}
 use Rattle.tokens.specs.declared.token.Sign.{Sign}
 use Rattle.tokens.specs.declared.token.Sign.the-variants.{Arrow, DoubleColon, Equal, Unequal, AtMost}
 use Rattle.tokens.specs.declared.token.Token.{Token}
@@ -168,14 +169,15 @@ starts-leads t u n s is =
     let left : length u ≡ length t - n = ap length is ∙ length-drop n t in
     (omega (arith, s .within), subst Begins here (s .begins))
 
-pub first-token : (t u rest : List ℕ) (n : ℕ) (k : Token) → Starts t n → u ≡ drop n t → Leads u k rest → First t n k rest
-first-token t u rest n k s is l =
-    let whole : t ≡ take n t ++ u = sym (ap (λ v. take n t ++ v) is ∙ take-append-drop n t) in
-    let long : length t ≡ length (take n t) + (length (spelling k) + length rest) = ap length whole ∙ simp length-append (ap (λ m. length (take n t) + m) (ap length (l .place) ∙ simp length-append)) in
+pub first-token : (t u : List ℕ) (l : Lexeme) → Starts t (l .skipped) → u ≡ drop (l .skipped) t → Leads u (l .token) (l .rest .now) → First t l
+first-token t u l s is leads =
+    let front = take (l .skipped) t in
+    let whole : t ≡ front ++ u = sym (ap (λ v. front ++ v) is ∙ take-append-drop (l .skipped) t) in
+    let long : length t ≡ length front + (length (spelling (l .token)) + length (l .rest .now)) = ap length whole ∙ simp length-append (ap (λ m. length front + m) (ap length (leads .place) ∙ simp length-append)) in
     record {
-      before = sym (ap (tokens gap) (append-nil (take n t))) ∙ s .skips [];
-      place = whole ∙ ap (λ v. take n t ++ v) (l .place);
-      cut = ap (tokens gap) whole ∙ (s .skips u ∙ l .cut);
-      proper = l .proper;
-      shorter = omega (arith, long, spelled k (l .proper));
+      before = sym (ap (tokens gap) (append-nil front)) ∙ s .skips [];
+      place = whole ∙ ap (λ v. front ++ v) (leads .place);
+      cut = ap (tokens gap) whole ∙ (s .skips u ∙ leads .cut);
+      proper = leads .proper;
+      shorter = omega (arith, long, spelled (l .token) (leads .proper));
     }

@@ -2,13 +2,17 @@
 use mathlib.Core.Path.{_≡_}
 use mathlib.Core.Bool.{true, false}
 use mathlib.Core.List.{List, [], _∷_, _++_}
-use Prim.Native.Nat.{ℕ, _<_}
+use Prim.Native.Nat.{ℕ, _<_, _≤_}
 use lib.Dec.{eqb}
 use lib.ListN.{length, getD, take}
 use lib.Chars.{codes}
+use Rattle.std.specs.shelf.Lists.{between}
+use Rattle.std.specs.declared.option.Option.{Option}
+use Rattle.std.specs.declared.option.Option.the-variants.{Some, None}
 use Rattle.meaning.specs.Basics.{Name}
 use Rattle.meaning.specs.Grammar.{all-letters}
-use Rattle.meaning.specs.Tokens.{is-letter, is-blank, joins, Lexing, tokens, gap}
+use Rattle.meaning.specs.Tokens.{is-letter, is-blank, joins, Lexing, gap, comment, tokens}
+use Rattle.tokens.specs.declared.token.Lexeme.{Lexeme}
 use Rattle.tokens.specs.declared.token.Sign.{Sign}
 use Rattle.tokens.specs.declared.token.Sign.the-variants.{Arrow, DoubleColon, Equal, Unequal, AtMost}
 use Rattle.tokens.specs.declared.token.Token.{Token}
@@ -42,6 +46,12 @@ Proper (token.Byte b) = Begins b × (is-letter b ≡ false)
 abbrev pub Skips : Lexing → List ℕ → Lexing → Type 0
 Skips m skipped n = (rest : List ℕ) → tokens m (skipped ++ rest) ≡ tokens n rest
 
+-- behind the line feed that ends the comment in which a text stands
+pub record Comment-ends (text : List ℕ) (from to : ℕ) : Type 0 where
+  pub skips : Skips comment (between from to text) gap
+  pub after : from < to
+  pub within : to ≤ length text
+
 -- where the first token of a text begins
 pub record Starts (text : List ℕ) (at : ℕ) : Type 0 where
   pub skips : Skips gap (take at text) gap
@@ -64,9 +74,14 @@ pub record Leads (text : List ℕ) (t : Token) (rest : List ℕ) : Type 0 where
   pub proper : Proper t
 
 -- The first token of the text stands behind the skipped bytes, which hold none, and the rest follows it.
-pub record First (text : List ℕ) (skipped : ℕ) (t : Token) (rest : List ℕ) : Type 0 where
-  pub before : tokens gap (take skipped text) ≡ []
-  pub place : text ≡ take skipped text ++ (spelling t ++ rest)
-  pub cut : tokens gap text ≡ spelling t ∷ tokens gap rest
-  pub proper : Proper t
-  pub shorter : length rest < length text
+pub record First (text : List ℕ) (l : Lexeme) : Type 0 where
+  pub before : tokens gap (take (l .skipped) text) ≡ []
+  pub place : text ≡ take (l .skipped) text ++ (spelling (l .token) ++ l .rest .now)
+  pub cut : tokens gap text ≡ spelling (l .token) ∷ tokens gap (l .rest .now)
+  pub proper : Proper (l .token)
+  pub shorter : length (l .rest .now) < length text
+
+-- the first token, or nothing where the text has none
+abbrev pub Next : List ℕ → Option Lexeme → Type 0
+Next text None = tokens gap text ≡ []
+Next text (Some l) = First text l

@@ -2,9 +2,11 @@
 
 mod bytes;
 mod next;
+mod position;
 mod token;
 
 pub use next::next_token;
+pub use position::Position;
 pub use token::Lexeme;
 pub use token::Sign;
 pub use token::Token;

@@ -4,9 +4,9 @@ ghost use mathlib.Core.List.{List, []};
 ghost use Prim.Native.Nat.{ℕ, _<_, _≤_};
 ghost use lib.ListN.{length, getD, drop};
 ghost use Rattle.std.specs.Options.{Cases as BySome};
-ghost use Rattle.std.specs.shelf.Lists.{between, leading};
+ghost use Rattle.std.specs.shelf.Lists.{leading};
 ghost use Rattle.meaning.specs.Tokens.{is-letter, tokens, gap, comment};
-ghost use Rattle.tokens.specs.Cutting.{Begins, First, Joined, Leads, Skips, Starts, Unjoined};
+ghost use Rattle.tokens.specs.Cutting.{Begins, Comment-ends, Joined, Leads, Next, Starts, Unjoined};
 use super::bytes::is_blank;
 use super::bytes::is_letter;
 use super::bytes::joined;
@@ -16,7 +16,7 @@ use super::token::Token;
 
 /// The first token of the text, and the rest of the text behind it; `None` where the text has no token.
 pub fn next_token(text: &[u8]) -> Option<Lexeme<'_>>
-    ensures { λ r. ⌜ BySome r (tokens gap (now (text .entry)) ≡ []) (λ l. First (now (text .entry)) (l .skipped) (l .token) (now (l .rest))) ⌝ }
+    ensures { λ r. ⌜ Next (now (text .entry)) r ⌝ }
 {
     let skipped = token_start(text)?;
     let (token, rest) = leading_token(&text[skipped..]);
@@ -29,7 +29,7 @@ pub fn next_token(text: &[u8]) -> Option<Lexeme<'_>>
 
 // Where the first token begins, past blanks and comments.
 fn token_start(text: &[u8]) -> Option<usize>
-    ensures { λ r. ⌜ BySome r (tokens gap (now (text .entry)) ≡ []) (λ n. Starts (now (text .entry)) n) ⌝ }
+    ensures { λ r. ⌜ BySome r (tokens gap (now (text .entry)) ≡ []) (Starts (now (text .entry))) ⌝ }
 {
     let mut at = 0;
     while at < text.len() {
@@ -48,7 +48,7 @@ fn token_start(text: &[u8]) -> Option<usize>
 // Behind the LF that ends the comment in which `from` stands; `None` where the text ends first.
 fn comment_end(text: &[u8], from: usize) -> Option<usize>
     requires { ⌜ from ≤ length (now text) ⌝ }
-    ensures { λ r. ⌜ BySome r (tokens comment (drop from (now (text .entry))) ≡ []) (λ n. (from < n) × (n ≤ length (now (text .entry))) × Skips comment (between from n (now (text .entry))) gap) ⌝ }
+    ensures { λ r. ⌜ BySome r (tokens comment (drop from (now (text .entry))) ≡ []) (Comment-ends (now (text .entry)) from) ⌝ }
 {
     let mut at = from;
     while at < text.len() {
@@ -79,7 +79,7 @@ fn leading_token(text: &[u8]) -> (Token<'_>, &[u8])
 
 // The sign that the first two bytes make, if they make one.
 fn leading_sign(text: &[u8]) -> Option<Sign>
-    ensures { λ r. ⌜ BySome r (Unjoined (now (text .entry))) (λ s. Joined (now (text .entry)) s) ⌝ }
+    ensures { λ r. ⌜ BySome r (Unjoined (now (text .entry))) (Joined (now (text .entry))) ⌝ }
 {
     if text.len() > 1 {
         joined(text[0], text[1])

@@ -1,4 +1,6 @@
 //! What a text is cut into.
+ghost use mathlib.Core.Path.{_≡_};
+ghost use Rattle.tokens.specs.Cutting.{sign-bytes};
 
 /// A sign of two bytes.
 #[derive(Clone, Copy, PartialEq, Debug)]
@@ -13,6 +15,21 @@ pub enum Sign {
     Unequal,
     /// `<=`
     AtMost,
+}
+
+impl Sign {
+    /// The two bytes of the sign.
+    pub fn bytes(self) -> &'static [u8]
+        ensures { λ r. ⌜ now r ≡ sign-bytes self ⌝ }
+    {
+        match self {
+            Sign::Arrow => b"->",
+            Sign::DoubleColon => b"::",
+            Sign::Equal => b"==",
+            Sign::Unequal => b"!=",
+            Sign::AtMost => b"<=",
+        }
+    }
 }
 
 /// The smallest part of a text that means something.

@@ -6,4 +6,4 @@ pub leading-token-requires : need.leading-token-requires
 leading-token-requires c κs = starts-leads (c .args .text .now) _ (c .in-Continue-skipped .skipped) (c .in-Continue-skipped .ensures tt) (take-rest (c .args .text .now) (c .in-Continue-skipped .skipped))
 
 pub returns : need.returns
-returns c = first-token (c .args .text .now) _ (c .leading-token .result .1 .now) (c .in-Continue-skipped .skipped) (c .leading-token .result .0) (c .in-Continue-skipped .ensures tt) (take-rest (c .args .text .now) (c .in-Continue-skipped .skipped)) (c .leading-token .ensures)
+returns c = first-token (c .args .text .now) _ _ (c .in-Continue-skipped .ensures tt) (take-rest (c .args .text .now) (c .in-Continue-skipped .skipped)) (c .leading-token .ensures)

@@ -15,8 +15,8 @@ returns-in-Break-at c =
 pub loop-at-again : need.loop-at-again
 loop-at-again c =
     let entered = comment-entered (c .args .text .now) (c .loop-at .at) (c .loop-at-test .taken) (sym (c .if-is-blank .ensures tt)) (c .if-byte-eq35 .taken) (c .loop-at .inv .1) in
-    let on : c .loop-at .at + 1 ≤ c .in-Continue-at .at = omega (arith, c .in-Continue-at .ensures tt .0) in
-    (c .in-Continue-at .ensures tt .1, comment-past (c .args .text .now) (c .loop-at .at + 1) (c .in-Continue-at .at) on entered (c .in-Continue-at .ensures tt .2))
+    let on : c .loop-at .at + 1 ≤ c .in-Continue-at .at = omega (arith, c .in-Continue-at .ensures tt .after) in
+    (c .in-Continue-at .ensures tt .within, comment-past (c .args .text .now) (c .loop-at .at + 1) (c .in-Continue-at .at) on entered (c .in-Continue-at .ensures tt .skips))
 
 pub returns : need.returns
 returns c = skipped-all (c .args .text .now) (c .loop-at .at) (c .loop-at-test .left) (c .loop-at .inv .1)
