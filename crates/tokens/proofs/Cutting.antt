@@ -179,5 +179,6 @@ first-token t u l s is leads =
       place = whole ∙ ap (λ v. front ++ v) (leads .place);
       cut = ap (tokens gap) whole ∙ (s .skips u ∙ leads .cut);
       proper = leads .proper;
+      within = s .within;
       shorter = omega (arith, long, spelled (l .token) (leads .proper));
     }

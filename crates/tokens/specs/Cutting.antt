@@ -79,6 +79,7 @@ pub record First (text : List ℕ) (l : Lexeme) : Type 0 where
   pub place : text ≡ take (l .skipped) text ++ (spelling (l .token) ++ l .rest .now)
   pub cut : tokens gap text ≡ spelling (l .token) ∷ tokens gap (l .rest .now)
   pub proper : Proper (l .token)
+  pub within : l .skipped < length text
   pub shorter : length (l .rest .now) < length text
 
 -- the first token, or nothing where the text has none
