@@ -2,6 +2,8 @@ use std::alloc::AllocError;
 use std::alloc::Global;
 use std::test::*;
 use tokens::Position;
+use tokens::PositionDebug;
+use tokens::PositionPartialEq;
 use tokens::Token;
 use tokens::next_token;
 
