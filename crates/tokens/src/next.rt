@@ -52,9 +52,9 @@ fn comment_end(text: &[u8], from: usize) -> Option<usize>
 {
     let mut at = from;
     while at < text.len() {
-        let byte = text[at];
+        let passed = text[at];
         at += 1;
-        if byte == b'\n' {
+        if passed == b'\n' {
             return Some(at);
         }
     }
