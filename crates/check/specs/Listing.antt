@@ -38,7 +38,10 @@ token-line line column t = decimal line ++ (codes ":" ++ (decimal column ++ (cod
 -- The lines list the tokens of a text that follows the bytes before: each token with the position of its first byte.
 pub data Lists : List ℕ → List ℕ → List ℕ → Type 0 where
   no-more : {before text : List ℕ} → tokens gap text ≡ [] → Lists before text []
-  one-more : {before text lines : List ℕ} {line column : ℕ} (l : Lexeme) → First text l → Behind (before ++ take (l .skipped) text) line column → Lists (before ++ (take (l .skipped) text ++ spelling (l .token))) (l .rest .now) lines → Lists before text (token-line line column (l .token) ++ lines)
+  one-more : {before text lines : List ℕ} {line column : ℕ} (l : Lexeme) → First text l
+      → Behind (before ++ take (l .skipped) text) line column
+      → Lists (before ++ (take (l .skipped) text ++ spelling (l .token))) (l .rest .now) lines
+      → Lists before text (token-line line column (l .token) ++ lines)
 
 -- as 7 tokens
 abbrev pub total-line : ℕ → List ℕ
@@ -47,4 +50,5 @@ total-line n = decimal n ++ cond (eqb n 1) (codes " token" ++ (10 ∷ [])) (code
 -- the whole answer
 abbrev pub Reports : Detail → List ℕ → List ℕ → Type 0
 Reports detail.Count text answer = answer ≡ total-line (length (tokens gap text))
-Reports detail.Tokens text answer = (lines : List ℕ) × Lists [] text lines × (answer ≡ lines ++ total-line (length (tokens gap text)))
+Reports detail.Tokens text answer = (lines : List ℕ) × Lists [] text lines
+    × (answer ≡ lines ++ total-line (length (tokens gap text)))

@@ -35,16 +35,20 @@ module _ (bytes : List ℕ) (line column line′ column′ c : ℕ) (b : Behind 
   line-past is p q =
       let ends : ends-line c ≡ true = eq-eqb c 10 is in
       record {
-        lines = p ∙ (counted-more line (countBy ends-line bytes) (b .lines) ∙ ap (λ n. counted (1 + n)) (add-comm 1 (countBy ends-line bytes) ∙ sym (countBy-push-yes ends-line bytes c ends)));
+        lines = p ∙ (counted-more line (countBy ends-line bytes) (b .lines)
+            ∙ ap (λ n. counted (1 + n))
+            (add-comm 1 (countBy ends-line bytes) ∙ sym (countBy-push-yes ends-line bytes c ends)));
         columns = q ∙ ap (λ n. counted (1 + n)) (sym (ending-push-no (λ k. not (ends-line k)) bytes c (ap not ends)));
       }
 
-  pub column-past : (c ≡ 10 → ⊥) → line′ ≡ line → column′ ≡ min (column + 1) (2 ^ 64 - 1) → Behind (bytes ++ (c ∷ [])) line′ column′
+  pub column-past : (c ≡ 10 → ⊥) → line′ ≡ line → column′ ≡ min (column + 1) (2 ^ 64 - 1)
+      → Behind (bytes ++ (c ∷ [])) line′ column′
   column-past other p q =
       let goes-on : ends-line c ≡ false = ne-eqb c 10 other in
       record {
         lines = p ∙ (b .lines ∙ ap (λ n. counted (1 + n)) (sym (countBy-push-no ends-line bytes c goes-on)));
-        columns = q ∙ (counted-more column (ending (λ k. not (ends-line k)) bytes) (b .columns) ∙ ap (λ n. counted (1 + n)) (sym (ending-push-yes (λ k. not (ends-line k)) bytes c (ap not goes-on))));
+        columns = q ∙ (counted-more column (ending (λ k. not (ends-line k)) bytes) (b .columns)
+            ∙ ap (λ n. counted (1 + n)) (sym (ending-push-yes (λ k. not (ends-line k)) bytes c (ap not goes-on))));
       }
 
 pub begins-behind : Behind [] 1 1
@@ -52,31 +56,42 @@ begins-behind = record { lines = refl; columns = refl }
 
 -- the position behind what comes before and the first bytes of a part, for whatever comes before
 abbrev pub Follows : (part : List ℕ) (i line column line′ column′ : ℕ) → Type 0
-Follows part i line column line′ column′ = (before : List ℕ) → Behind before line column → Behind (before ++ take i part) line′ column′
+Follows part i line column line′ column′ = (before : List ℕ) → Behind before line column
+    → Behind (before ++ take i part) line′ column′
 
 pub follows-none : (part : List ℕ) (line column : ℕ) → Follows part 0 line column line column
 follows-none part line column before b = rw (append-nil before) b
 
-pub follows-all : (part : List ℕ) (i line column line′ column′ : ℕ) → length part ≤ i → Follows part i line column line′ column′ → (before : List ℕ) → Behind before line column → Behind (before ++ part) line′ column′
+pub follows-all : (part : List ℕ) (i line column line′ column′ : ℕ) → length part ≤ i
+    → Follows part i line column line′ column′ → (before : List ℕ) → Behind before line column
+    → Behind (before ++ part) line′ column′
 follows-all part i line column line′ column′ h f before b = rw (take-all i part h) at (f before b)
 
 module _ (part : List ℕ) (i line column l k l′ k′ : ℕ) (h : i < length part) (f : Follows part i line column l k) where
-  follows-more : ((bytes : List ℕ) → Behind bytes l k → Behind (bytes ++ (getD part i 0 ∷ [])) l′ k′) → Follows part (i + 1) line column l′ k′
+  follows-more : ((bytes : List ℕ) → Behind bytes l k → Behind (bytes ++ (getD part i 0 ∷ [])) l′ k′)
+      → Follows part (i + 1) line column l′ k′
   follows-more step before b =
-      let longer : (before ++ take i part) ++ (getD part i 0 ∷ []) ≡ before ++ take (i + 1) part = append-assoc before (take i part) (getD part i 0 ∷ []) ∙ sym (ap (λ s. before ++ s) (take-more part i 0 h)) in
+      let longer : (before ++ take i part) ++ (getD part i 0 ∷ []) ≡ before
+      ++ take (i + 1) part = append-assoc before (take i part) (getD part i 0 ∷ [])
+      ∙ sym (ap (λ s. before ++ s) (take-more part i 0 h)) in
       rw longer at (step (before ++ take i part) (f before b))
 
-  pub follows-line : getD part i 0 ≡ 10 → l′ ≡ min (l + 1) (2 ^ 64 - 1) → k′ ≡ 1 → Follows part (i + 1) line column l′ k′
+  pub follows-line : getD part i 0 ≡ 10 → l′ ≡ min (l + 1) (2 ^ 64 - 1) → k′ ≡ 1
+      → Follows part (i + 1) line column l′ k′
   follows-line is p q = follows-more (λ bytes b. line-past bytes l k l′ k′ (getD part i 0) b is p q)
 
-  pub follows-column : (getD part i 0 ≡ 10 → ⊥) → l′ ≡ l → k′ ≡ min (k + 1) (2 ^ 64 - 1) → Follows part (i + 1) line column l′ k′
+  pub follows-column : (getD part i 0 ≡ 10 → ⊥) → l′ ≡ l → k′ ≡ min (k + 1) (2 ^ 64 - 1)
+      → Follows part (i + 1) line column l′ k′
   follows-column other p q = follows-more (λ bytes b. column-past bytes l k l′ k′ (getD part i 0) b other p q)
 
 pub take-length : (n : ℕ) (xs : List ℕ) → take (length (take n xs)) xs ≡ take n xs
-take-length n xs = sym (ap (λ ys. take (length (take n xs)) ys) (take-append-drop n xs)) ∙ take-at (take n xs) (drop n xs) (length (take n xs)) refl
+take-length n xs = sym (ap (λ ys. take (length (take n xs)) ys) (take-append-drop n xs))
+    ∙ take-at (take n xs) (drop n xs) (length (take n xs)) refl
 
 -- a text's first bytes, from where it begins
-pub behind-front : (text part : List ℕ) (at end line column : ℕ) → end ≡ min at (length text) → part ≡ take end text → ((before : List ℕ) → Behind before 1 1 → Behind (before ++ part) line column) → Behind (take at text) line column
+pub behind-front : (text part : List ℕ) (at end line column : ℕ) → end ≡ min at (length text) → part ≡ take end text
+    → ((before : List ℕ) → Behind before 1 1 → Behind (before ++ part) line column) → Behind (take at text) line column
 behind-front text part at end line column e is f =
-    let all : part ≡ take at text = is ∙ (ap (λ n. take n text) (e ∙ sym (length-take at text)) ∙ take-length at text) in
+    let all : part ≡ take at text = is
+    ∙ (ap (λ n. take n text) (e ∙ sym (length-take at text)) ∙ take-length at text) in
     rw all at (f [] begins-behind)

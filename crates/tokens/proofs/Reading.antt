@@ -15,9 +15,13 @@ goes-on t rest = t .out ++ tokens (t .then) rest
 
 -- `fresh` by the outcomes of its tests: a blank, a #, a letter, the begin of a sign
 abbrev pub ways : List Name → ℕ → Bool → Bool → Bool → Bool → Cut
-ways o c blank hash letter begins = cond blank (cut o gap) (cond hash (cut o comment) (cond letter (cut o (word (c ∷ []))) (cond begins (cut o (sign c)) (cut (o ++ ((c ∷ []) ∷ [])) gap))))
+ways o c blank hash letter begins = cond blank (cut o gap)
+    (cond hash (cut o comment) (cond letter (cut o (word (c ∷ [])))
+    (cond begins (cut o (sign c)) (cut (o ++ ((c ∷ []) ∷ [])) gap))))
 
-pub gap-cons : (c : ℕ) (rest : List ℕ) (blank hash letter begins : Bool) → is-blank c ≡ blank → eqb c 35 ≡ hash → is-letter c ≡ letter → begins-sign c ≡ begins → tokens gap (c ∷ rest) ≡ goes-on (ways [] c blank hash letter begins) rest
+pub gap-cons : (c : ℕ) (rest : List ℕ) (blank hash letter begins : Bool) → is-blank c ≡ blank → eqb c 35 ≡ hash
+    → is-letter c ≡ letter → begins-sign c ≡ begins
+    → tokens gap (c ∷ rest) ≡ goes-on (ways [] c blank hash letter begins) rest
 gap-cons c rest blank hash letter begins p q r s =
     ap (λ b. goes-on (ways [] c b (eqb c 35) (is-letter c) (begins-sign c)) rest) p
     ∙ (ap (λ b. goes-on (ways [] c blank b (is-letter c) (begins-sign c)) rest) q
@@ -25,7 +29,8 @@ gap-cons c rest blank hash letter begins p q r s =
     ∙ ap (λ b. goes-on (ways [] c blank hash letter b) rest) s))
 
 -- what was completed before a byte goes out first
-pub ways-out : (o : List Name) (c : ℕ) (rest : List ℕ) (blank hash letter begins : Bool) → goes-on (ways o c blank hash letter begins) rest ≡ o ++ goes-on (ways [] c blank hash letter begins) rest
+pub ways-out : (o : List Name) (c : ℕ) (rest : List ℕ) (blank hash letter begins : Bool)
+    → goes-on (ways o c blank hash letter begins) rest ≡ o ++ goes-on (ways [] c blank hash letter begins) rest
 ways-out o c rest true hash letter begins = refl
 ways-out o c rest false true letter begins = refl
 ways-out o c rest false false true begins = refl
@@ -52,23 +57,32 @@ pub comment-ends : (c : ℕ) → eqb c 10 ≡ true → Skips comment (c ∷ []) 
 comment-ends c p rest = ap (λ b. goes-on (cond b (cut [] gap) (cut [] comment)) rest) p
 
 -- bytes of words and signs
-pub word-begins : (c : ℕ) (rest : List ℕ) → Begins c → is-letter c ≡ true → tokens gap (c ∷ rest) ≡ tokens (word (c ∷ [])) rest
+pub word-begins : (c : ℕ) (rest : List ℕ) → Begins c → is-letter c ≡ true
+    → tokens gap (c ∷ rest) ≡ tokens (word (c ∷ [])) rest
 word-begins c rest b r = gap-cons c rest false false true _ (b .no-blank) (b .no-comment) r refl
 
-pub word-more : (w : Name) (c : ℕ) (rest : List ℕ) → is-letter c ≡ true → tokens (word w) (c ∷ rest) ≡ tokens (word (w ++ (c ∷ []))) rest
+pub word-more : (w : Name) (c : ℕ) (rest : List ℕ) → is-letter c ≡ true
+    → tokens (word w) (c ∷ rest) ≡ tokens (word (w ++ (c ∷ []))) rest
 word-more w c rest r = ap (λ b. goes-on (cond b (cut [] (word (w ++ (c ∷ [])))) (fresh (w ∷ []) c)) rest) r
 
-pub word-ends : (w : Name) (c : ℕ) (rest : List ℕ) → is-letter c ≡ false → tokens (word w) (c ∷ rest) ≡ w ∷ tokens gap (c ∷ rest)
-word-ends w c rest r = ap (λ b. goes-on (cond b (cut [] (word (w ++ (c ∷ [])))) (fresh (w ∷ []) c)) rest) r ∙ fresh-out (w ∷ []) c rest
+pub word-ends : (w : Name) (c : ℕ) (rest : List ℕ) → is-letter c ≡ false
+    → tokens (word w) (c ∷ rest) ≡ w ∷ tokens gap (c ∷ rest)
+word-ends w c rest r = ap (λ b. goes-on (cond b (cut [] (word (w ++ (c ∷ [])))) (fresh (w ∷ []) c)) rest) r
+    ∙ fresh-out (w ∷ []) c rest
 
-pub sign-begins : (c : ℕ) (rest : List ℕ) → Begins c → is-letter c ≡ false → begins-sign c ≡ true → tokens gap (c ∷ rest) ≡ tokens (sign c) rest
+pub sign-begins : (c : ℕ) (rest : List ℕ) → Begins c → is-letter c ≡ false → begins-sign c ≡ true
+    → tokens gap (c ∷ rest) ≡ tokens (sign c) rest
 sign-begins c rest b r s = gap-cons c rest false false false true (b .no-blank) (b .no-comment) r s
 
-pub sign-joins : (d c : ℕ) (rest : List ℕ) → joins d c ≡ true → tokens (sign d) (c ∷ rest) ≡ (d ∷ c ∷ []) ∷ tokens gap rest
+pub sign-joins : (d c : ℕ) (rest : List ℕ) → joins d c ≡ true
+    → tokens (sign d) (c ∷ rest) ≡ (d ∷ c ∷ []) ∷ tokens gap rest
 sign-joins d c rest p = ap (λ b. goes-on (cond b (cut ((d ∷ c ∷ []) ∷ []) gap) (fresh ((d ∷ []) ∷ []) c)) rest) p
 
-pub sign-alone : (d c : ℕ) (rest : List ℕ) → joins d c ≡ false → tokens (sign d) (c ∷ rest) ≡ (d ∷ []) ∷ tokens gap (c ∷ rest)
-sign-alone d c rest p = ap (λ b. goes-on (cond b (cut ((d ∷ c ∷ []) ∷ []) gap) (fresh ((d ∷ []) ∷ []) c)) rest) p ∙ fresh-out ((d ∷ []) ∷ []) c rest
+pub sign-alone : (d c : ℕ) (rest : List ℕ) → joins d c ≡ false
+    → tokens (sign d) (c ∷ rest) ≡ (d ∷ []) ∷ tokens gap (c ∷ rest)
+sign-alone d c rest p = ap (λ b. goes-on (cond b (cut ((d ∷ c ∷ []) ∷ []) gap) (fresh ((d ∷ []) ∷ []) c)) rest) p
+    ∙ fresh-out ((d ∷ []) ∷ []) c rest
 
-pub byte-alone : (c : ℕ) (rest : List ℕ) → Begins c → is-letter c ≡ false → begins-sign c ≡ false → tokens gap (c ∷ rest) ≡ (c ∷ []) ∷ tokens gap rest
+pub byte-alone : (c : ℕ) (rest : List ℕ) → Begins c → is-letter c ≡ false → begins-sign c ≡ false
+    → tokens gap (c ∷ rest) ≡ (c ∷ []) ∷ tokens gap rest
 byte-alone c rest b r s = gap-cons c rest false false false false (b .no-blank) (b .no-comment) r s

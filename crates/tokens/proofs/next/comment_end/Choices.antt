@@ -6,7 +6,8 @@ use Rattle.tokens.specs.Cutting.{Skips}
 use Rattle.tokens.proofs.next.comment_end.Given as given
 
 abbrev pub Inv-loop-at : given.InvT-loop-at
-Inv-loop-at l = (l .from ≤ l .at) × (l .at ≤ length (l .text)) × Skips comment (between (l .from) (l .at) (l .text)) comment
+Inv-loop-at l = (l .from ≤ l .at) × (l .at ≤ length (l .text))
+    × Skips comment (between (l .from) (l .at) (l .text)) comment
 
 abbrev pub μ-loop-at : given.MeasureT-loop-at
 μ-loop-at l = length (l .text) - l .at
