@@ -10,7 +10,7 @@ use Rattle.std.proofs.shelf.Lists.{take-at, length-append}
 use Rattle.meaning.specs.Tokens.{tokens, gap}
 use Rattle.tokens.specs.declared.token.Lexeme.{Lexeme}
 use Rattle.tokens.specs.Cutting.{spelling, First}
-use Rattle.tokens.specs.Position.{Behind}
+use Rattle.tokens.specs.Position.{Behind, Passes}
 use Rattle.tokens.proofs.Placing.{begins-behind}
 use Rattle.check.specs.Listing.{Lists, no-more, one-more, token-line}
 
@@ -22,12 +22,12 @@ pub listed-none : (text : List ℕ) → Listed text [] text 1 1
 listed-none text = ([], begins-behind, λ lines l. l)
 
 -- what a token and the bytes before it take of a text
-pub taken : (t : List ℕ) (l : Lexeme) → First t l → take (length t - length (l .rest .now)) t ≡ take (l .skipped) t
-    ++ spelling (l .token)
+pub taken : (t : List ℕ) (l : Lexeme) → First t l
+    → take (length t - length (l .rest .now)) t ≡ take (l .skipped) t ++ spelling (l .token)
 taken t l f =
     let front = take (l .skipped) t ++ spelling (l .token) in
-    let whole : t ≡ front ++ l .rest .now = f .place
-    ∙ sym (append-assoc (take (l .skipped) t) (spelling (l .token)) (l .rest .now)) in
+    let whole : t ≡ front ++ l .rest .now =
+    f .place ∙ sym (append-assoc (take (l .skipped) t) (spelling (l .token)) (l .rest .now)) in
     let long : length t ≡ length front + length (l .rest .now) = ap length whole ∙ length-append front (l .rest .now) in
     ap (λ s. take (length t - length (l .rest .now)) s) whole
     ∙ take-at front (l .rest .now) (length t - length (l .rest .now)) (omega (arith, long))
@@ -36,10 +36,10 @@ taken t l f =
 module _ (text done rest : List ℕ) (l : Lexeme) (line column : ℕ) (f : First rest l) where
   pub listed-more : (done′ skipped used : List ℕ) (start-line start-column line′ column′ : ℕ)
       → Listed text done rest line column → skipped ≡ take (l .skipped) rest
-      → ((before : List ℕ) → Behind before line column → Behind (before ++ skipped) start-line start-column)
+      → Passes line column skipped start-line start-column
       → done′ ≡ done ++ token-line start-line start-column (l .token)
       → used ≡ take (length rest - length (l .rest .now)) rest
-      → ((before : List ℕ) → Behind before line column → Behind (before ++ used) line′ column′)
+      → Passes line column used line′ column′
       → Listed text done′ (l .rest .now) line′ column′
   listed-more done′ skipped used start-line start-column line′ column′ (before, b, completes) skipped-is starts
       done-is used-is ends =
@@ -47,11 +47,11 @@ module _ (text done rest : List ℕ) (l : Lexeme) (line column : ℕ) (f : First
       let Start : List ℕ → Type 0 = λ s. Behind (before ++ s) start-line start-column in
       let End : List ℕ → Type 0 = λ s. Behind (before ++ s) line′ column′ in
       let Whole : List ℕ → Type 0 = λ s. Lists [] text s in
-      let joins : (lines : List ℕ) → done ++ (entry ++ lines) ≡ done′
-      ++ lines = λ lines. sym (ap (λ s. s ++ lines) done-is ∙ append-assoc done entry lines) in (
+      let joined : (lines : List ℕ) → done ++ (entry ++ lines) ≡ done′ ++ lines =
+      λ lines. sym (ap (λ s. s ++ lines) done-is ∙ append-assoc done entry lines) in (
         before ++ (take (l .skipped) rest ++ spelling (l .token)),
         subst End (used-is ∙ taken rest l f) (ends before b),
-        λ lines m. subst Whole (joins lines)
+        λ lines m. subst Whole (joined lines)
             (completes (entry ++ lines) (one-more l f (subst Start skipped-is (starts before b)) m)),
       )
 

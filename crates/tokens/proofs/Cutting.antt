@@ -142,8 +142,8 @@ pub word-leads : (t : List ℕ) (n : ℕ) (w rest : RefT (List ℕ)) → n ≡ l
 word-leads t n w rest is some b front-is rest-is =
     let letters : w .now ≡ front t = front-is ∙ ap (λ k. take k t) is in
     let behind-is : rest .now ≡ behind t = rest-is ∙ ap (λ k. drop k t) is in
-    let long : length (front t) ≡ leading is-letter t = length-take-le (leading is-letter t) t
-    (leading-le-length is-letter t) in
+    let long : length (front t) ≡ leading is-letter t =
+    length-take-le (leading is-letter t) t (leading-le-length is-letter t) in
     record {
       place = sym (take-append-drop n t) ∙ cc;
       cut = word-cut t (omega arith) b
@@ -186,8 +186,8 @@ spelled (token.Byte b) p = omega arith
 
 pub starts-leads : (t u : List ℕ) (n : ℕ) → Starts t n → u ≡ drop n t → (0 < length u) × Begins (getD u 0 0)
 starts-leads t u n s is =
-    let here : getD t n 0 ≡ getD u 0 0 = sym
-    (ap (λ v. getD v 0 0) is ∙ (getD-drop n t 0 0 ∙ ap (λ k. getD t k 0) (add-zero n))) in
+    let here : getD t n 0 ≡ getD u 0 0 =
+    sym (ap (λ v. getD v 0 0) is ∙ (getD-drop n t 0 0 ∙ ap (λ k. getD t k 0) (add-zero n))) in
     let left : length u ≡ length t - n = ap length is ∙ length-drop n t in
     (omega (arith, s .within), subst Begins here (s .begins))
 
@@ -196,8 +196,8 @@ pub first-token : (t u : List ℕ) (l : Lexeme) → Starts t (l .skipped) → u 
 first-token t u l s is leads =
     let front = take (l .skipped) t in
     let whole : t ≡ front ++ u = sym (ap (λ v. front ++ v) is ∙ take-append-drop (l .skipped) t) in
-    let long : length t ≡ length front + (length (spelling (l .token)) + length (l .rest .now)) = ap length whole
-    ∙ simp length-append (ap (λ m. length front + m) (ap length (leads .place) ∙ simp length-append)) in
+    let long : length t ≡ length front + (length (spelling (l .token)) + length (l .rest .now)) =
+    ap length whole ∙ simp length-append (ap (λ m. length front + m) (ap length (leads .place) ∙ simp length-append)) in
     record {
       before = sym (ap (tokens gap) (append-nil front)) ∙ s .skips [];
       place = whole ∙ ap (λ v. front ++ v) (leads .place);

@@ -11,7 +11,7 @@ use Rattle.std.specs.shelf.Lists.{countBy, ending, leading}
 use Rattle.std.proofs.shelf.Lists.{reverse-append, take-more, take-all, take-at, take-append-drop, length-take}
 use Rattle.std.proofs.shelf.Sums.{sumBy-push}
 use Rattle.std.proofs.shelf.Tests.{eq-eqb, ne-eqb}
-use Rattle.tokens.specs.Position.{ends-line, counted, Behind}
+use Rattle.tokens.specs.Position.{ends-line, counted, Behind, Passes}
 
 module _ (p : ℕ → Bool) (xs : List ℕ) (y : ℕ) where
   pub ending-push-yes : p y ≡ true → ending p (xs ++ (y ∷ [])) ≡ 1 + ending p xs
@@ -54,35 +54,30 @@ module _ (bytes : List ℕ) (line column line′ column′ c : ℕ) (b : Behind 
 pub begins-behind : Behind [] 1 1
 begins-behind = record { lines = refl; columns = refl }
 
--- the position behind what comes before and the first bytes of a part, for whatever comes before
-abbrev pub Follows : (part : List ℕ) (i line column line′ column′ : ℕ) → Type 0
-Follows part i line column line′ column′ = (before : List ℕ) → Behind before line column
-    → Behind (before ++ take i part) line′ column′
+-- the first bytes of a part: none, all, and one more
+pub passes-none : (part : List ℕ) (line column : ℕ) → Passes line column (take 0 part) line column
+passes-none part line column before b = rw (append-nil before) b
 
-pub follows-none : (part : List ℕ) (line column : ℕ) → Follows part 0 line column line column
-follows-none part line column before b = rw (append-nil before) b
+pub passes-all : (part : List ℕ) (i line column line′ column′ : ℕ) → length part ≤ i
+    → Passes line column (take i part) line′ column′ → Passes line column part line′ column′
+passes-all part i line column line′ column′ h f before b = rw (take-all i part h) at (f before b)
 
-pub follows-all : (part : List ℕ) (i line column line′ column′ : ℕ) → length part ≤ i
-    → Follows part i line column line′ column′ → (before : List ℕ) → Behind before line column
-    → Behind (before ++ part) line′ column′
-follows-all part i line column line′ column′ h f before b = rw (take-all i part h) at (f before b)
-
-module _ (part : List ℕ) (i line column l k l′ k′ : ℕ) (h : i < length part) (f : Follows part i line column l k) where
-  follows-more : ((bytes : List ℕ) → Behind bytes l k → Behind (bytes ++ (getD part i 0 ∷ [])) l′ k′)
-      → Follows part (i + 1) line column l′ k′
-  follows-more step before b =
-      let longer : (before ++ take i part) ++ (getD part i 0 ∷ []) ≡ before
-      ++ take (i + 1) part = append-assoc before (take i part) (getD part i 0 ∷ [])
+module _ (part : List ℕ) (i line column l k l′ k′ : ℕ) (h : i < length part)
+    (f : Passes line column (take i part) l k) where
+  passes-more : Passes l k (getD part i 0 ∷ []) l′ k′ → Passes line column (take (i + 1) part) l′ k′
+  passes-more step before b =
+      let longer : (before ++ take i part) ++ (getD part i 0 ∷ []) ≡ before ++ take (i + 1) part =
+      append-assoc before (take i part) (getD part i 0 ∷ [])
       ∙ sym (ap (λ s. before ++ s) (take-more part i 0 h)) in
       rw longer at (step (before ++ take i part) (f before b))
 
-  pub follows-line : getD part i 0 ≡ 10 → l′ ≡ min (l + 1) (2 ^ 64 - 1) → k′ ≡ 1
-      → Follows part (i + 1) line column l′ k′
-  follows-line is p q = follows-more (λ bytes b. line-past bytes l k l′ k′ (getD part i 0) b is p q)
+  pub passes-line : getD part i 0 ≡ 10 → l′ ≡ min (l + 1) (2 ^ 64 - 1) → k′ ≡ 1
+      → Passes line column (take (i + 1) part) l′ k′
+  passes-line is p q = passes-more (λ bytes b. line-past bytes l k l′ k′ (getD part i 0) b is p q)
 
-  pub follows-column : (getD part i 0 ≡ 10 → ⊥) → l′ ≡ l → k′ ≡ min (k + 1) (2 ^ 64 - 1)
-      → Follows part (i + 1) line column l′ k′
-  follows-column other p q = follows-more (λ bytes b. column-past bytes l k l′ k′ (getD part i 0) b other p q)
+  pub passes-column : (getD part i 0 ≡ 10 → ⊥) → l′ ≡ l → k′ ≡ min (k + 1) (2 ^ 64 - 1)
+      → Passes line column (take (i + 1) part) l′ k′
+  passes-column other p q = passes-more (λ bytes b. column-past bytes l k l′ k′ (getD part i 0) b other p q)
 
 pub take-length : (n : ℕ) (xs : List ℕ) → take (length (take n xs)) xs ≡ take n xs
 take-length n xs = sym (ap (λ ys. take (length (take n xs)) ys) (take-append-drop n xs))
@@ -90,8 +85,8 @@ take-length n xs = sym (ap (λ ys. take (length (take n xs)) ys) (take-append-dr
 
 -- a text's first bytes, from where it begins
 pub behind-front : (text part : List ℕ) (at end line column : ℕ) → end ≡ min at (length text) → part ≡ take end text
-    → ((before : List ℕ) → Behind before 1 1 → Behind (before ++ part) line column) → Behind (take at text) line column
+    → Passes 1 1 part line column → Behind (take at text) line column
 behind-front text part at end line column e is f =
-    let all : part ≡ take at text = is
-    ∙ (ap (λ n. take n text) (e ∙ sym (length-take at text)) ∙ take-length at text) in
+    let all : part ≡ take at text =
+    is ∙ (ap (λ n. take n text) (e ∙ sym (length-take at text)) ∙ take-length at text) in
     rw all at (f [] begins-behind)

@@ -25,6 +25,11 @@ sign-bytes Equal = codes "=="
 sign-bytes Unequal = codes "!="
 sign-bytes AtMost = codes "<="
 
+-- the sign that two bytes make, or nothing where they make none
+abbrev pub Makes : ℕ → ℕ → Option Sign → Type 0
+Makes first second None = joins first second ≡ false
+Makes first second (Some s) = (joins first second ≡ true) × (sign-bytes s ≡ first ∷ second ∷ [])
+
 -- the bytes of a token
 abbrev pub spelling : Token → Name
 spelling (token.Word w) = w .now

@@ -1,10 +1,7 @@
 //! The kinds of bytes that a text is cut by.
 ghost use mathlib.Core.Path.{_≡_};
-ghost use Rattle.std.specs.Options.{Cases as BySome};
-ghost use mathlib.Core.Bool.{true, false};
-ghost use mathlib.Core.List.{[], _∷_};
-ghost use Rattle.meaning.specs.Tokens.{is-letter, is-blank, joins};
-ghost use Rattle.tokens.specs.Cutting.{sign-bytes};
+ghost use Rattle.meaning.specs.Tokens.{is-letter, is-blank};
+ghost use Rattle.tokens.specs.Cutting.{Makes};
 use super::token::Sign;
 
 /// Is the byte a letter, a digit or `_`?
@@ -26,7 +23,7 @@ pub fn is_blank(byte: u8) -> bool
 
 /// The sign that two bytes make, if they make one.
 pub fn joined(first: u8, second: u8) -> Option<Sign>
-    ensures { λ r. ⌜ BySome r (joins first second ≡ false) (λ s. (joins first second ≡ true) × (sign-bytes s ≡ first ∷ second ∷ [])) ⌝ }
+    ensures { λ r. ⌜ Makes first second r ⌝ }
 {
     match (first, second) {
         (b'-', b'>') => Some(Sign::Arrow),

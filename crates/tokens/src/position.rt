@@ -1,8 +1,6 @@
 //! Lines and columns, for messages.
-ghost use mathlib.Core.List.{List, _++_};
-ghost use Prim.Native.Nat.{ℕ};
 ghost use lib.ListN.{take};
-ghost use Rattle.tokens.specs.Position.{Behind};
+ghost use Rattle.tokens.specs.Position.{Behind, Passes};
 
 /// A line and a column of a text, each counted from 1.
 #[derive(Clone, Copy, PartialEq, Debug)]
@@ -25,7 +23,7 @@ impl Position {
 
     /// The position behind these bytes, where they stand at this one.
     pub fn past(self, bytes: &[u8]) -> Position
-        ensures { λ r. ⌜ ((before : List ℕ) → Behind before (self .line) (self .column) → Behind (before ++ now (bytes .entry)) (r .line) (r .column)) ⌝ }
+        ensures { λ r. ⌜ Passes (self .line) (self .column) (now (bytes .entry)) (r .line) (r .column) ⌝ }
     {
         let mut line = self.line;
         let mut column = self.column;
