@@ -1,12 +1,12 @@
 -- What a token is spelled as, and what it is to cut a text at its first token.
 use mathlib.Core.Path.{_≡_}
-use mathlib.Core.Bool.{true, false}
+use mathlib.Core.Bool.{Bool, true, false, not}
 use mathlib.Core.List.{List, [], _∷_, _++_}
-use Prim.Native.Nat.{ℕ, _<_, _≤_}
+use Prim.Native.Nat.{ℕ, _+_, _<_, _≤_}
 use lib.Dec.{eqb}
-use lib.ListN.{length, getD, take}
+use lib.ListN.{length, getD, take, drop}
 use lib.Chars.{codes}
-use Rattle.std.specs.shelf.Lists.{between}
+use Rattle.std.specs.shelf.Lists.{between, leading}
 use Rattle.std.specs.declared.option.Option.{Option}
 use Rattle.std.specs.declared.option.Option.the-variants.{Some, None}
 use Rattle.meaning.specs.Basics.{Name}
@@ -51,11 +51,20 @@ Proper (token.Byte b) = Begins b × (is-letter b ≡ false)
 abbrev pub Skips : Lexing → List ℕ → Lexing → Type 0
 Skips m skipped n = (rest : List ℕ) → tokens m (skipped ++ rest) ≡ tokens n rest
 
--- behind the line feed that ends the comment in which a text stands
+-- the bytes that a comment goes on with: all but the line feed
+abbrev pub stays-comment : ℕ → Bool
+stays-comment c = not (eqb c 10)
+
+-- behind the first line feed, which ends the comment in which `from` stands
 pub record Comment-ends (text : List ℕ) (from to : ℕ) : Type 0 where
   pub skips : Skips comment (between from to text) gap
-  pub after : from < to
+  pub first : to ≡ from + leading stays-comment (drop from text) + 1
   pub within : to ≤ length text
+
+-- no line feed ends the comment in which `from` stands, so no token follows
+pub record Comment-open (text : List ℕ) (from : ℕ) : Type 0 where
+  pub endless : from + leading stays-comment (drop from text) ≡ length text
+  pub none : tokens comment (drop from text) ≡ []
 
 -- where the first token of a text begins
 pub record Starts (text : List ℕ) (at : ℕ) : Type 0 where

@@ -2,11 +2,11 @@
 ghost use mathlib.Core.Path.{_≡_};
 ghost use mathlib.Core.List.{List, []};
 ghost use Prim.Native.Nat.{ℕ, _<_, _≤_};
-ghost use lib.ListN.{length, getD, drop};
+ghost use lib.ListN.{length, getD};
 ghost use Rattle.std.specs.Options.{Cases as BySome};
 ghost use Rattle.std.specs.shelf.Lists.{leading};
-ghost use Rattle.meaning.specs.Tokens.{is-letter, tokens, gap, comment};
-ghost use Rattle.tokens.specs.Cutting.{Begins, Comment-ends, Joined, Leads, Next, Starts, Unjoined};
+ghost use Rattle.meaning.specs.Tokens.{is-letter, tokens, gap};
+ghost use Rattle.tokens.specs.Cutting.{Begins, Comment-ends, Comment-open, Joined, Leads, Next, Starts, Unjoined};
 use super::bytes::is_blank;
 use super::bytes::is_letter;
 use super::bytes::joined;
@@ -48,7 +48,7 @@ fn token_start(text: &[u8]) -> Option<usize>
 // Behind the LF that ends the comment in which `from` stands; `None` where the text ends first.
 fn comment_end(text: &[u8], from: usize) -> Option<usize>
     requires { ⌜ from ≤ length (now text) ⌝ }
-    ensures { λ r. ⌜ BySome r (tokens comment (drop from (now (text .entry))) ≡ []) (Comment-ends (now (text .entry)) from) ⌝ }
+    ensures { λ r. ⌜ BySome r (Comment-open (now (text .entry)) from) (Comment-ends (now (text .entry)) from) ⌝ }
 {
     let mut at = from;
     while at < text.len() {

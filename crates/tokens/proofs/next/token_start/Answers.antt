@@ -16,13 +16,13 @@ returns-in-Break-at c =
     let entered = comment-entered (c .args .text .now) (c .loop-at .at) (c .loop-at-test .taken)
     (sym (c .if-is-blank .ensures tt)) (c .if-byte-eq35 .taken) (c .loop-at .inv .1) in
     rw (c .from-residual .ensures) (comment-last (c .args .text .now) (c .loop-at .at + 1) entered
-    (c .in-Break-at .ensures tt))
+    (c .in-Break-at .ensures tt .none))
 
 pub loop-at-again : need.loop-at-again
 loop-at-again c =
     let entered = comment-entered (c .args .text .now) (c .loop-at .at) (c .loop-at-test .taken)
     (sym (c .if-is-blank .ensures tt)) (c .if-byte-eq35 .taken) (c .loop-at .inv .1) in
-    let on : c .loop-at .at + 1 ≤ c .in-Continue-at .at = omega (arith, c .in-Continue-at .ensures tt .after) in (
+    let on : c .loop-at .at + 1 ≤ c .in-Continue-at .at = omega (arith, c .in-Continue-at .ensures tt .first) in (
       c .in-Continue-at .ensures tt .within,
       comment-past (c .args .text .now) (c .loop-at .at + 1)
           (c .in-Continue-at .at) on entered (c .in-Continue-at .ensures tt .skips),
