@@ -1,11 +1,10 @@
 -- What is listed so far is completed by whatever lists the rest. One more token moves its line to the front of the
 -- rest's lines, and the position on by what the token took.
 use mathlib.Core.Path.{_≡_, sym, ap, subst, _∙_}
-use mathlib.Core.List.{List, [], _∷_, _++_, append-assoc, append-nil}
-use Prim.Native.Nat.{ℕ, _+_, _-_, _<_}
+use mathlib.Core.List.{List, [], _++_, append-assoc, append-nil}
+use Prim.Native.Nat.{ℕ, _+_, _-_}
 use native.Mathlib.Omega.{arith}
 use lib.ListN.{length, take}
-use denote.Ref.{RefT}
 use Rattle.std.proofs.shelf.Lists.{take-at, length-append}
 use Rattle.meaning.specs.Tokens.{tokens, gap}
 use Rattle.tokens.specs.declared.token.Lexeme.{Lexeme}

@@ -6,7 +6,6 @@ use Prim.Native.Nat.{ℕ}
 use lib.Dec.{eqb, leb}
 use lib.ListN.{length, take}
 use lib.Chars.{codes}
-use denote.Ref.{RefT}
 use Rattle.std.specs.Written.{decimal}
 use Rattle.meaning.specs.Tokens.{tokens, gap}
 use Rattle.tokens.specs.declared.token.Lexeme.{Lexeme}

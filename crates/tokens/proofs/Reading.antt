@@ -1,12 +1,12 @@
 -- What one byte does to the reading of tokens. `fresh` looks at four tests of a byte; with their
 -- outcomes known it computes. A word or a sign that a byte ends goes out before what the byte begins.
-use mathlib.Core.Path.{_≡_, refl, sym, ap, _∙_}
+use mathlib.Core.Path.{_≡_, refl, ap, _∙_}
 use mathlib.Core.Bool.{Bool, true, false, cond}
-use mathlib.Core.List.{List, [], _∷_, _++_, append-assoc, append-nil}
+use mathlib.Core.List.{List, [], _∷_, _++_, append-assoc}
 use Prim.Native.Nat.{ℕ}
 use lib.Dec.{eqb}
 use Rattle.meaning.specs.Basics.{Name}
-use Rattle.meaning.specs.Tokens.{is-letter, is-blank, begins-sign, joins, Lexing, gap, word, sign, comment, Cut, cut, fresh, next-byte, tokens}
+use Rattle.meaning.specs.Tokens.{is-letter, is-blank, begins-sign, joins, Lexing, gap, word, sign, comment, Cut, cut, fresh, tokens}
 use Rattle.tokens.specs.Cutting.{Skips, Begins}
 
 -- what a cut and the text behind it give
