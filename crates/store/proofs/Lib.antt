@@ -1,0 +1,4 @@
+pub mod Words
+pub mod Denoting
+pub mod Spines
+pub mod Laws

@@ -1,0 +1,18 @@
+//! Lent words as a store of immutable cells: no other crate touches them.
+
+mod heap;
+mod slot;
+
+pub use heap::Heap;
+pub use slot::Cell;
+pub use slot::FIRST_NODE;
+pub use slot::Full;
+pub use slot::Place;
+pub use slot::Slot;
+pub use slot::both;
+pub use slot::left;
+pub use slot::read_cell;
+pub use slot::read_slot;
+pub use slot::right;
+pub use slot::write_cell;
+pub use slot::write_slot;
