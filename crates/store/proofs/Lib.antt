@@ -2,3 +2,4 @@ pub mod Words
 pub mod Denoting
 pub mod Spines
 pub mod Laws
+pub mod Collecting

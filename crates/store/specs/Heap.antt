@@ -1,7 +1,7 @@
 -- What a slot of a store denotes, and what making a cell keeps.
 -- Other crates use the laws in proofs/Laws.antt, and open nothing of this.
 use mathlib.Core.Path.{_≡_}
-use mathlib.Core.List.{List}
+use mathlib.Core.List.{List, [], _∷_}
 use Prim.Native.Nat.{ℕ, _+_, _*_, _≤_, _<_}
 use lib.ListN.{length}
 use Rattle.store.specs.Slots.{slotAt, placeOf}
@@ -13,6 +13,9 @@ use Rattle.store.specs.declared.slot.Slot.{Slot}
 pub record Store : Type 0 where
   pub words : List ℕ
   pub used : ℕ
+
+abbrev pub storeOf : List ℕ → ℕ → Store
+storeOf words used = record { words = words; used = used }
 
 abbrev pub stored : Heap → Store
 stored h = record { words = h .words .now; used = h .used }
@@ -54,3 +57,8 @@ pub record Put (m m′ : Store) (kind : ℕ) (a b r : Slot) : Type 0 where
 pub record Lacks (m m′ : Store) : Type 0 where
   pub short : length (m .words) < 6 * (m .used + 1)
   pub same : m′ ≡ m
+
+-- the slots of some words from j on denote these trees, in the store m
+abbrev pub Slots : Store → List ℕ → ℕ → List Tree → Type 0
+Slots m words j [] = Unit {0}
+Slots m words j (t ∷ ts) = Den m (slotAt words j) t × Slots m words (j + 1) ts

@@ -1,3 +1,4 @@
 pub mod Tree
 pub mod Slots
 pub mod Heap
+pub mod Collect

@@ -1,8 +1,10 @@
 //! Lent words as a store of immutable cells: no other crate touches them.
 
+mod collector;
 mod heap;
 mod slot;
 
+pub use collector::collect;
 pub use heap::Heap;
 pub use slot::Cell;
 pub use slot::FIRST_NODE;
