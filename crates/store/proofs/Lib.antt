@@ -3,3 +3,4 @@ pub mod Denoting
 pub mod Spines
 pub mod Laws
 pub mod Collecting
+pub mod Comparing

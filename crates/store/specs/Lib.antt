@@ -2,3 +2,4 @@ pub mod Tree
 pub mod Slots
 pub mod Heap
 pub mod Collect
+pub mod Compare

@@ -1,9 +1,13 @@
 //! The store as one value: memory and how many cells of it are in use.
 
+ghost use mathlib.Core.Bool.{true};
 ghost use mathlib.Core.Path.{_≡_};
 ghost use lib.ListN.{length};
 ghost use Rattle.std.specs.Results.{Cases};
+ghost use Rattle.std.specs.declared.result.Result.the-variants.{Ok};
+ghost use Rattle.store.specs.Compare.{Answers, TooLarge};
 ghost use Rattle.store.specs.Heap.{leftOf, rightOf, stored, Lacks, Put};
+use crate::comparer::equal;
 use crate::slot::Cell;
 use crate::slot::Full;
 use crate::slot::Place;
@@ -58,5 +62,15 @@ impl Heap<'_> {
         ensures right { λ r. ⌜ r .right ≡ rightOf (now (self .entry) .words .now) node ⌝ }
     {
         both(self.words, node)
+    }
+
+    /// Whether two slots denote the same tree, as `equal` says.
+    pub fn equal(&self, a: Slot, b: Slot, scratch: &mut [u32], budget: usize) -> Result<bool, Full>
+        ensures cases { λ r. ⌜ Cases r
+            (λ answer. Answers (now (self .entry) .words .now) a b answer)
+            (λ _. TooLarge (now (self .entry) .words .now) a b (now (scratch .entry)) budget) ⌝ }
+        ensures alike { λ r. ⌜ (a ≡ b → r ≡ Ok true) ⌝ }
+    {
+        equal(self.words, a, b, scratch, budget)
     }
 }

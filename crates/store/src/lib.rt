@@ -1,10 +1,12 @@
 //! Lent words as a store of immutable cells: no other crate touches them.
 
 mod collector;
+mod comparer;
 mod heap;
 mod slot;
 
 pub use collector::collect;
+pub use comparer::equal;
 pub use heap::Heap;
 pub use slot::Cell;
 pub use slot::FIRST_NODE;
