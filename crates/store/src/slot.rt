@@ -11,7 +11,7 @@ ghost use Rattle.store.specs.Slots.{cellAt, placeOf, slotAt, Wrote, WroteCell}
 pub const FIRST_NODE: u32 = 16;
 
 /// Three words: a leaf's own, or a node's, whose last two are the number of its cell.
-#[derive(Clone, Copy)]
+#[derive(Clone, Copy, Debug, PartialEq, Eq)]
 pub struct Slot {
     pub kind: u32,
     pub low: u32,
@@ -30,7 +30,7 @@ pub struct Cell {
 pub struct Place(pub usize);
 
 /// There is no room left.
-#[derive(Clone, Copy)]
+#[derive(Clone, Copy, Debug, PartialEq, Eq)]
 pub struct Full;
 
 impl Slot {
