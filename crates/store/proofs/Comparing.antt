@@ -107,44 +107,96 @@ comparing-next {m} w {x} {y} depth {budget} {left} {s} {t} e b k = go (k .rest) 
           room = omega arith;
         }
 
--- the cells p and q of the pair at hand were read, their left slots are compared next and their right slots wait
-pub comparing-parts : {m : Store} (w w′ : List ℕ) {x y : Slot} (depth : ℕ) {budget left : ℕ} {s t : Tree} (p q : Cell) → Told x y Parts → 0 < left
-    → p .left ≡ leftOf (m .words) x → p .right ≡ rightOf (m .words) x → q .left ≡ leftOf (m .words) y → q .right ≡ rightOf (m .words) y
-    → WroteCell w w′ depth (record { left = p .right; right = q .right }) → Comparing m w x y depth budget left s t
-    → Comparing m w′ (p .left) (q .left) (depth + 1) budget (left - 1) s t
-comparing-parts {m} w w′ {x} {y} depth {budget} {left} {s} {t} p q e b pl pr ql qr r k = go (k .one) (k .two) (k .here) (k .there) (k .same) (k .steps) (k .room)
+-- the pair at hand are nodes of one kind, with the cells p and q: the left slots are to be compared, and the right ones
+record Opened (m : Store) (p q : Cell) (depth budget left : ℕ) (rest : List Pair) (s t : Tree) : Type 0 where
+  lefts : Pair
+  rights : Pair
+  left-one : Den m (p .left) (lefts .one)
+  left-two : Den m (q .left) (lefts .two)
+  right-one : Den m (p .right) (rights .one)
+  right-two : Den m (q .right) (rights .two)
+  same : sameTree s t ≡ (sameTree (lefts .one) (lefts .two) && (sameTree (rights .one) (rights .two) && allSame rest))
+  steps : budget + (1 + cells (lefts .one) + cells (rights .one) + weight rest) ≤ left + cells s
+  room : depth + (1 + cells (lefts .one) + cells (rights .one) + weight rest) ≤ cells s
+
+-- a cell with both slots of a node
+abbrev BothOf : List ℕ → Slot → Cell → Type 0
+BothOf words x p = (p .left ≡ leftOf words x) × (p .right ≡ rightOf words x)
+
+opened : {m : Store} {w : List ℕ} {x y : Slot} {depth budget left : ℕ} {s t : Tree} (p q : Cell) → Told x y Parts → BothOf (m .words) x p → BothOf (m .words) y q
+    → (k : Comparing m w x y depth budget left s t) → Opened m p q depth budget left (k .rest) s t
+opened {m} {w} {x} {y} {depth} {budget} {left} {s} {t} p q e bp bq k = go (k .one) (k .two) (k .here) (k .there) (k .same) (k .steps) (k .room)
   where
     go : (one two : Tree) → Den m x one → Den m y two → sameTree s t ≡ (sameTree one two && allSame (k .rest)) → budget + (cells one + weight (k .rest)) ≤ left + cells s
-        → depth + (cells one + weight (k .rest)) ≤ cells s → Comparing m w′ (p .left) (q .left) (depth + 1) budget (left - 1) s t
+        → depth + (cells one + weight (k .rest)) ≤ cells s → Opened m p q depth budget left (k .rest) s t
     go (leaf i l h) two d d′ z u v = absurd (omega (arith, leaf-kind d, ap (λ (g : Slot). g .kind) (leaf-is d), e .0))
     go (node i a₁ a₂) (leaf i′ l′ h′) d d′ z u v = absurd (omega (arith, leaf-kind d′, ap (λ (g : Slot). g .kind) (leaf-is d′), e .0, e .1))
     go (node i a₁ a₂) (node i′ b₁ b₂) d d′ z u v =
         let kinds : eqb i i′ ≡ true = eq-eqb i i′ (sym (node-is d) ∙ (e .1 ∙ node-is d′)) in
         record {
-          one = a₁;
-          two = b₁;
-          rest = record { one = a₂; two = b₂ } ∷ k .rest;
-          here = subst (λ (g : Slot). Den m g a₁) (sym pl) (node-left d);
-          there = subst (λ (g : Slot). Den m g b₁) (sym ql) (node-left d′);
-          long = omega (arith, k .long);
-          stand = (
-            subst (λ n. Den m (slotAt w′ (2 * n)) a₂) (k .long) (subst (λ (g : Slot). Den m g a₂) (sym (r .left ∙ pr)) (node-right d)),
-            subst (λ n. Den m (slotAt w′ (2 * n + 1)) b₂) (k .long) (subst (λ (g : Slot). Den m g b₂) (sym (r .right ∙ qr)) (node-right d′)),
-            pairs-same m w w′ (k .rest) (λ i h. r .other i (λ g. omega (arith, k .long)) (λ g. omega (arith, k .long))) (k .stand),
-          );
+          lefts = record { one = a₁; two = b₁ };
+          rights = record { one = a₂; two = b₂ };
+          left-one = subst (λ (g : Slot). Den m g a₁) (sym (bp .0)) (node-left d);
+          left-two = subst (λ (g : Slot). Den m g b₁) (sym (bq .0)) (node-left d′);
+          right-one = subst (λ (g : Slot). Den m g a₂) (sym (bp .1)) (node-right d);
+          right-two = subst (λ (g : Slot). Den m g b₂) (sym (bq .1)) (node-right d′);
           same = z ∙ (ap (λ g. (g && (sameTree a₁ b₁ && sameTree a₂ b₂)) && allSame (k .rest)) kinds ∙ and-assoc (sameTree a₁ b₁) (sameTree a₂ b₂) (allSame (k .rest)));
-          steps = omega (arith, b);
+          steps = omega arith;
           room = omega arith;
         }
+
+-- the left slots are compared next, and the right ones wait
+pub comparing-lefts : {m : Store} (w w′ : List ℕ) {x y : Slot} (depth : ℕ) {budget left : ℕ} {s t : Tree} (p q : Cell) → Told x y Parts → 0 < left
+    → p .left ≡ leftOf (m .words) x → p .right ≡ rightOf (m .words) x → q .left ≡ leftOf (m .words) y → q .right ≡ rightOf (m .words) y
+    → WroteCell w w′ depth (record { left = p .right; right = q .right }) → Comparing m w x y depth budget left s t
+    → Comparing m w′ (p .left) (q .left) (depth + 1) budget (left - 1) s t
+comparing-lefts {m} w w′ depth p q e b pl pr ql qr r k =
+    let o = opened p q e (pl, pr) (ql, qr) k in
+    record {
+      one = o .lefts .one;
+      two = o .lefts .two;
+      rest = o .rights ∷ k .rest;
+      here = o .left-one;
+      there = o .left-two;
+      long = omega (arith, k .long);
+      stand = (
+        subst (λ n. Den m (slotAt w′ (2 * n)) (o .rights .one)) (k .long) (subst (λ (g : Slot). Den m g (o .rights .one)) (sym (r .left)) (o .right-one)),
+        subst (λ n. Den m (slotAt w′ (2 * n + 1)) (o .rights .two)) (k .long) (subst (λ (g : Slot). Den m g (o .rights .two)) (sym (r .right)) (o .right-two)),
+        pairs-same m w w′ (k .rest) (λ i h. r .other i (λ g. omega (arith, k .long)) (λ g. omega (arith, k .long))) (k .stand),
+      );
+      same = o .same;
+      steps = omega (arith, b, o .steps);
+      room = omega (arith, o .room);
+    }
+
+-- the left slots are alike: the right ones are compared next
+pub comparing-rights : {m : Store} {w : List ℕ} {x y : Slot} {depth budget left : ℕ} {s t : Tree} (p q : Cell) → Told x y Parts → 0 < left
+    → p .left ≡ leftOf (m .words) x → p .right ≡ rightOf (m .words) x → q .left ≡ leftOf (m .words) y → q .right ≡ rightOf (m .words) y
+    → p .left ≡ q .left → Comparing m w x y depth budget left s t → Comparing m w (p .right) (q .right) depth budget (left - 1) s t
+comparing-rights p q e b pl pr ql qr alike k =
+    let o = opened p q e (pl, pr) (ql, qr) k in
+    record {
+      one = o .rights .one;
+      two = o .rights .two;
+      rest = k .rest;
+      here = o .right-one;
+      there = o .right-two;
+      long = k .long;
+      stand = k .stand;
+      same = o .same
+          ∙ ap (λ g. g && (sameTree (o .rights .one) (o .rights .two) && allSame (k .rest))) (alike-same (o .lefts .one) (o .lefts .two) alike (o .left-one) (o .left-two));
+      steps = omega (arith, b, o .steps);
+      room = omega (arith, o .room);
+    }
 
 -- a pair that is opened is a cell more of the first tree
 pub comparing-short : {m : Store} {w : List ℕ} {x y : Slot} {depth budget left : ℕ} {s t : Tree} → Told x y Parts → Comparing m w x y depth budget left s t
     → (depth < cells s) × (budget < left + cells s)
-comparing-short {m} {w} {x} {y} {depth} {budget} {left} {s} {t} e k = go (k .one) (k .here) (k .steps) (k .room)
-  where
-    go : (one : Tree) → Den m x one → budget + (cells one + weight (k .rest)) ≤ left + cells s → depth + (cells one + weight (k .rest)) ≤ cells s → (depth < cells s) × (budget < left + cells s)
-    go (leaf i l h) d u v = absurd (omega (arith, leaf-kind d, ap (λ (q : Slot). q .kind) (leaf-is d), e .0))
-    go (node i a b) d u v = (omega arith, omega arith)
+comparing-short {m} {w} {x} {y} e k =
+    let p : Cell = record { left = leftOf (m .words) x; right = rightOf (m .words) x } in
+    let q : Cell = record { left = leftOf (m .words) y; right = rightOf (m .words) y } in
+    let o = opened p q e (refl, refl) (refl, refl) k in
+    (omega (arith, o .room), omega (arith, o .steps))
 
 -- slots that are alike don't differ
 pub alike-told : {x y : Slot} → Told x y Differ → x ≡ y → ⊥

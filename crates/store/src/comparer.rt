@@ -10,6 +10,7 @@ use crate::slot::FIRST_NODE;
 use crate::slot::Full;
 use crate::slot::Place;
 use crate::slot::Slot;
+use crate::slot::SlotPartialEq;
 use crate::slot::both;
 use crate::slot::read_cell;
 use crate::slot::write_cell;
@@ -37,42 +38,42 @@ pub fn equal(
         (λ _. TooLarge (now (words .entry)) a b (now (scratch .entry)) budget) ⌝ }
     ensures alike { λ r. ⌜ (a ≡ b → r ≡ Ok true) ⌝ }
 {
-    let mut x = a;
-    let mut y = b;
+    let mut pair = Cell { left: a, right: b };
     let mut depth: usize = 0;
     let mut left = budget;
     'pairs: loop {
-        match compare(x, y) {
+        match compare(pair.left, pair.right) {
             Compared::Differ => return Ok(false),
             Compared::Same => {
                 if depth == 0 {
                     return Ok(true);
                 }
                 depth -= 1;
-                let waiting = read_cell(scratch, Place(depth));
-                x = waiting.left;
-                y = waiting.right;
+                pair = read_cell(scratch, Place(depth));
             }
             Compared::Parts => {
                 if left == 0 {
                     return Err(Full);
                 }
                 left -= 1;
-                let p = both(words, x);
-                let q = both(words, y);
-                match write_cell(
-                    scratch,
-                    Place(depth),
-                    Cell {
-                        left: p.right,
-                        right: q.right,
-                    },
-                ) {
-                    Ok(()) => depth += 1,
-                    Err(full) => return Err(full),
+                let one = both(words, pair.left);
+                let two = both(words, pair.right);
+                let rights = Cell {
+                    left: one.right,
+                    right: two.right,
+                };
+                if one.left == two.left {
+                    pair = rights;
+                } else {
+                    match write_cell(scratch, Place(depth), rights) {
+                        Ok(()) => depth += 1,
+                        Err(full) => return Err(full),
+                    }
+                    pair = Cell {
+                        left: one.left,
+                        right: two.left,
+                    };
                 }
-                x = p.left;
-                y = q.left;
             }
         }
     }
@@ -82,15 +83,11 @@ pub fn equal(
 fn compare(x: Slot, y: Slot) -> Compared
     ensures { λ r. ⌜ Told x y r ⌝ }
 {
-    if x.kind != y.kind {
-        return Compared::Differ;
-    }
-    if x.low == y.low && x.high == y.high {
-        return Compared::Same;
-    }
-    if x.kind < FIRST_NODE {
-        Compared::Differ
-    } else {
+    if x == y {
+        Compared::Same
+    } else if x.kind == y.kind && x.kind >= FIRST_NODE {
         Compared::Parts
+    } else {
+        Compared::Differ
     }
 }

@@ -1,13 +1,14 @@
 use mathlib.Core.Logic.{inl, inr}
 use mathlib.Core.Path.{_≡_, refl, sym, ap, subst}
 use Prim.Native.Nat.{ℕ, _+_, _-_, _*_, _<_}
+use borrow.Author.Needs.{needs}
 use native.Mathlib.Omega.{arith}
 use Rattle.store.specs.Compare.{Comparing}
 use Rattle.store.specs.Heap.{storeOf, leftOf}
 use Rattle.store.specs.Slots.{slotAt, cellAt}
 use Rattle.store.specs.declared.slot.Cell.{Cell}
 use Rattle.store.specs.declared.slot.Slot.{Slot}
-use Rattle.store.proofs.Comparing.{alike-told, comparing-differs, comparing-done, comparing-next, comparing-parts, comparing-short}
+use Rattle.store.proofs.Comparing.{alike-told, comparing-differs, comparing-done, comparing-next, comparing-lefts, comparing-rights, comparing-short}
 use Rattle.store.proofs.comparer.equal.Needs as need
 
 pub returns-in-Differ : need.returns-in-Differ
@@ -29,7 +30,7 @@ pairs-again-in-Same c =
     let some : 0 < c .pairs .depth = omega (arith, c .if-depth-eq0 .left) in (
       (λ used s t d e.
           subst (λ (q : Cell). Comparing (storeOf (c .args .words .now) used) (c .pairs .scratch) (q .left) (q .right) (c .pairs .depth - 1) (c .args .budget) (c .pairs .left) s t)
-          (sym (c .read-cell-waiting .ensures))
+          (sym (c .read-cell-pair .ensures))
           (comparing-next (c .pairs .scratch) (c .pairs .depth) (c .in-Same .ensures tt) some (c .pairs .inv .0 used s t d e))),
       (λ e. absurd (c .if-depth-eq0 .left (c .pairs .inv .1 e .1))),
     )
@@ -52,8 +53,19 @@ pub pairs-again : need.pairs-again
 pairs-again c =
     let some : 0 < c .pairs .left = omega (arith, c .if-left-eq0 .left) in (
       (λ used s t d e.
-          comparing-parts (c .pairs .scratch) (c .write-cell .last .words) (c .pairs .depth) (c .both-p .result) (c .both-q .result) (c .in-Parts .ensures tt) some
-          (c .both-p .ensures .left) (c .both-p .ensures .right) (c .both-q .ensures .left) (c .both-q .ensures .right)
+          comparing-lefts (c .pairs .scratch) (c .write-cell .last .words) (c .pairs .depth) (c .both-one .result) (c .both-two .result) (c .in-Parts .ensures tt) some
+          (c .both-one .ensures .left) (c .both-one .ensures .right) (c .both-two .ensures .left) (c .both-two .ensures .right)
           (c .in-Ok .ensures tt .1) (c .pairs .inv .0 used s t d e)),
+      (λ e. absurd (c .in-Parts .ensures tt .2 (c .pairs .inv .1 e .0))),
+    )
+
+pub pairs-again-then-eq : need.pairs-again-then-eq
+pairs-again-then-eq c =
+    let some : 0 < c .pairs .left = omega (arith, c .if-left-eq0 .left) in
+    let alike : c .both-one .result .left ≡ c .both-two .result .left = search needs in (
+      (λ used s t d e.
+          comparing-rights (c .both-one .result) (c .both-two .result) (c .in-Parts .ensures tt) some
+          (c .both-one .ensures .left) (c .both-one .ensures .right) (c .both-two .ensures .left) (c .both-two .ensures .right)
+          alike (c .pairs .inv .0 used s t d e)),
       (λ e. absurd (c .in-Parts .ensures tt .2 (c .pairs .inv .1 e .0))),
     )
