@@ -1,5 +1,6 @@
 -- The stack holds what is left to compare, so the answer is known when a pair differs or the stack is empty.
--- Each step that opens a pair looks at a cell of the first tree that was not looked at before, so neither the steps nor the
+-- Each step that opens a pair looks at a cell of the first tree that was not looked at before, so neither the steps
+-- nor the
 -- pairs that wait are more than its cells.
 use mathlib.Core.Path.{_≡_, refl, sym, ap, subst, _∙_}
 use mathlib.Core.Bool.{Bool, true, false, _&&_, and-true, and-assoc}
@@ -22,33 +23,42 @@ use Rattle.store.proofs.Words.{slot-parts}
 
 -- slots that are alike denote the same tree
 alike-same : {m : Store} {x y : Slot} (s t : Tree) → x ≡ y → Den m x s → Den m y t → sameTree s t ≡ true
-alike-same {m} s t e d d′ = subst (λ u. sameTree s u ≡ true) (one-tree d (subst (λ q. Den m q t) (sym e) d′)) (sameTree-refl s)
+alike-same {m} s t e d d′ =
+    subst (λ u. sameTree s u ≡ true) (one-tree d (subst (λ q. Den m q t) (sym e) d′)) (sameTree-refl s)
 
 -- leaves that are the same tree have slots that are alike
-leaf-alike : {m : Store} {x y : Slot} (k l h k′ l′ h′ : ℕ) → Den m x (leaf k l h) → Den m y (leaf k′ l′ h′) → sameTree (leaf k l h) (leaf k′ l′ h′) ≡ true → x ≡ y
+leaf-alike : {m : Store} {x y : Slot} (k l h k′ l′ h′ : ℕ) → Den m x (leaf k l h) → Den m y (leaf k′ l′ h′)
+    → sameTree (leaf k l h) (leaf k′ l′ h′) ≡ true → x ≡ y
 leaf-alike k l h k′ l′ h′ d d′ e =
     let p = and-parts (eqb k k′) (eqb l l′ && eqb h h′) e in
     let q = and-parts (eqb l l′) (eqb h h′) (p .1) in
     leaf-is d ∙ (slot-parts {s = record { kind = k; low = l; high = h }} {t = record { kind = k′; low = l′; high = h′ }}
     (eqb-true k k′ (p .0)) (eqb-true l l′ (q .0)) (eqb-true h h′ (q .1)) ∙ sym (leaf-is d′))
 
-leaf-differ : {m : Store} {x y : Slot} (s t : Tree) → x .kind < 16 → (x ≡ y → ⊥) → Den m x s → Den m y t → sameTree s t ≡ false
+leaf-differ : {m : Store} {x y : Slot} (s t : Tree) → x .kind < 16 → (x ≡ y → ⊥) → Den m x s → Den m y t
+    → sameTree s t ≡ false
 leaf-differ (leaf k l h) (leaf k′ l′ h′) b n d d′ =
-    elim (cases-bool (sameTree (leaf k l h) (leaf k′ l′ h′))) [ inl e ↦ absurd (n (leaf-alike k l h k′ l′ h′ d d′ e)) | inr e ↦ e ]
+    elim (cases-bool (sameTree (leaf k l h) (leaf k′ l′ h′)))
+    [ inl e ↦ absurd (n (leaf-alike k l h k′ l′ h′ d d′ e)) | inr e ↦ e ]
 leaf-differ (leaf k l h) (node k′ c e) b n d d′ = refl
 leaf-differ (node k x y) t b n d d′ = absurd (omega (arith, node-is d, node-kind d))
 
-kind-differ : {m : Store} {x y : Slot} (s t : Tree) → (x .kind ≡ y .kind → ⊥) → Den m x s → Den m y t → sameTree s t ≡ false
+kind-differ : {m : Store} {x y : Slot} (s t : Tree) → (x .kind ≡ y .kind → ⊥) → Den m x s → Den m y t
+    → sameTree s t ≡ false
 kind-differ (leaf k l h) (leaf k′ l′ h′) n d d′ =
-    and-left (eqb k k′) (eqb l l′ && eqb h h′) (ne-eqb k k′ (λ e. n (ap (λ (q : Slot). q .kind) (leaf-is d) ∙ (e ∙ sym (ap (λ (q : Slot). q .kind) (leaf-is d′))))))
+    and-left (eqb k k′) (eqb l l′ && eqb h h′)
+    (ne-eqb k k′ (λ e. n (ap (λ (q : Slot). q .kind) (leaf-is d)
+    ∙ (e ∙ sym (ap (λ (q : Slot). q .kind) (leaf-is d′))))))
 kind-differ (leaf k l h) (node k′ c e) n d d′ = refl
 kind-differ (node k a b) (leaf k′ l′ h′) n d d′ = refl
-kind-differ (node k a b) (node k′ c e) n d d′ = and-left (eqb k k′) (sameTree a c && sameTree b e) (ne-eqb k k′ (λ q. n (node-is d ∙ (q ∙ sym (node-is d′)))))
+kind-differ (node k a b) (node k′ c e) n d d′ =
+    and-left (eqb k k′) (sameTree a c && sameTree b e) (ne-eqb k k′ (λ q. n (node-is d ∙ (q ∙ sym (node-is d′)))))
 
 told-differ : {m : Store} {x y : Slot} (s t : Tree) → Told x y Differ → Den m x s → Den m y t → sameTree s t ≡ false
 told-differ s t w d d′ = elim w [ inl n ↦ kind-differ s t n d d′ | inr p ↦ leaf-differ s t (p .0) (p .1) d d′ ]
 
-pairs-same : (m : Store) (w w′ : List ℕ) (ps : List Pair) → ((i : ℕ) → i < 2 * length ps → slotAt w′ i ≡ slotAt w i) → Pairs m w ps → Pairs m w′ ps
+pairs-same : (m : Store) (w w′ : List ℕ) (ps : List Pair) → ((i : ℕ) → i < 2 * length ps → slotAt w′ i ≡ slotAt w i)
+    → Pairs m w ps → Pairs m w′ ps
 pairs-same m w w′ [] e p = tt
 pairs-same m w w′ (x ∷ ps) e p = (
   subst (λ r. Den m r (x .one)) (sym (e (2 * length ps) (omega arith))) (p .0),
@@ -56,7 +66,8 @@ pairs-same m w w′ (x ∷ ps) e p = (
   pairs-same m w w′ ps (λ i h. e i (omega arith)) (p .2),
 )
 
-pub comparing-start : {m : Store} (w : List ℕ) (a b : Slot) (budget : ℕ) (s t : Tree) → Den m a s → Den m b t → Comparing m w a b 0 budget budget s t
+pub comparing-start : {m : Store} (w : List ℕ) (a b : Slot) (budget : ℕ) (s t : Tree) → Den m a s → Den m b t
+    → Comparing m w a b 0 budget budget s t
 comparing-start w a b budget s t d d′ =
     record {
       one = s;
@@ -71,25 +82,33 @@ comparing-start w a b budget s t d d′ =
       room = omega arith;
     }
 
-pub comparing-differs : {m : Store} {w : List ℕ} {x y : Slot} {depth budget left : ℕ} {s t : Tree} → Told x y Differ → Comparing m w x y depth budget left s t → false ≡ sameTree s t
-comparing-differs e k = sym (k .same ∙ and-left (sameTree (k .one) (k .two)) (allSame (k .rest)) (told-differ (k .one) (k .two) e (k .here) (k .there)))
+pub comparing-differs : {m : Store} {w : List ℕ} {x y : Slot} {depth budget left : ℕ} {s t : Tree} → Told x y Differ
+    → Comparing m w x y depth budget left s t → false ≡ sameTree s t
+comparing-differs e k =
+    sym (k .same ∙ and-left (sameTree (k .one) (k .two)) (allSame (k .rest))
+    (told-differ (k .one) (k .two) e (k .here) (k .there)))
 
 -- the pair at hand is the same: what waits decides
-rest-decides : {m : Store} {w : List ℕ} {x y : Slot} {depth budget left : ℕ} {s t : Tree} → x ≡ y → (k : Comparing m w x y depth budget left s t) → sameTree s t ≡ allSame (k .rest)
+rest-decides : {m : Store} {w : List ℕ} {x y : Slot} {depth budget left : ℕ} {s t : Tree} → x ≡ y
+    → (k : Comparing m w x y depth budget left s t) → sameTree s t ≡ allSame (k .rest)
 rest-decides e k = k .same ∙ ap (λ z. z && allSame (k .rest)) (alike-same (k .one) (k .two) e (k .here) (k .there))
 
-pub comparing-done : {m : Store} {w : List ℕ} {x y : Slot} {depth budget left : ℕ} {s t : Tree} → x ≡ y → depth ≡ 0 → Comparing m w x y depth budget left s t → true ≡ sameTree s t
+pub comparing-done : {m : Store} {w : List ℕ} {x y : Slot} {depth budget left : ℕ} {s t : Tree} → x ≡ y → depth ≡ 0
+    → Comparing m w x y depth budget left s t → true ≡ sameTree s t
 comparing-done {m} {w} {x} {y} {depth} {budget} {left} {s} {t} e z k = go (k .rest) (k .long) (rest-decides e k)
   where
     go : (ps : List Pair) → depth ≡ length ps → sameTree s t ≡ allSame ps → true ≡ sameTree s t
     go [] l q = sym q
     go (p ∷ ps) l q = absurd (omega arith)
 
-pub comparing-next : {m : Store} (w : List ℕ) {x y : Slot} (depth : ℕ) {budget left : ℕ} {s t : Tree} → x ≡ y → 0 < depth → Comparing m w x y depth budget left s t
+pub comparing-next : {m : Store} (w : List ℕ) {x y : Slot} (depth : ℕ) {budget left : ℕ} {s t : Tree} → x ≡ y
+    → 0 < depth → Comparing m w x y depth budget left s t
     → Comparing m w (slotAt w (2 * (depth - 1))) (slotAt w (2 * (depth - 1) + 1)) (depth - 1) budget left s t
-comparing-next {m} w {x} {y} depth {budget} {left} {s} {t} e b k = go (k .rest) (k .long) (k .stand) (rest-decides e k) (k .steps) (k .room)
+comparing-next {m} w {x} {y} depth {budget} {left} {s} {t} e b k =
+    go (k .rest) (k .long) (k .stand) (rest-decides e k) (k .steps) (k .room)
   where
-    go : (ps : List Pair) → depth ≡ length ps → Pairs m w ps → sameTree s t ≡ allSame ps → budget + (cells (k .one) + weight ps) ≤ left + cells s → depth + (cells (k .one) + weight ps) ≤ cells s
+    go : (ps : List Pair) → depth ≡ length ps → Pairs m w ps → sameTree s t ≡ allSame ps
+        → budget + (cells (k .one) + weight ps) ≤ left + cells s → depth + (cells (k .one) + weight ps) ≤ cells s
         → Comparing m w (slotAt w (2 * (depth - 1))) (slotAt w (2 * (depth - 1) + 1)) (depth - 1) budget left s t
     go [] l p q u v = absurd (omega arith)
     go (r ∷ ps) l p q u v =
@@ -123,14 +142,18 @@ record Opened (m : Store) (p q : Cell) (depth budget left : ℕ) (rest : List Pa
 abbrev BothOf : List ℕ → Slot → Cell → Type 0
 BothOf words x p = (p .left ≡ leftOf words x) × (p .right ≡ rightOf words x)
 
-opened : {m : Store} {w : List ℕ} {x y : Slot} {depth budget left : ℕ} {s t : Tree} (p q : Cell) → Told x y Parts → BothOf (m .words) x p → BothOf (m .words) y q
+opened : {m : Store} {w : List ℕ} {x y : Slot} {depth budget left : ℕ} {s t : Tree} (p q : Cell) → Told x y Parts
+    → BothOf (m .words) x p → BothOf (m .words) y q
     → (k : Comparing m w x y depth budget left s t) → Opened m p q depth budget left (k .rest) s t
-opened {m} {w} {x} {y} {depth} {budget} {left} {s} {t} p q e bp bq k = go (k .one) (k .two) (k .here) (k .there) (k .same) (k .steps) (k .room)
+opened {m} {w} {x} {y} {depth} {budget} {left} {s} {t} p q e bp bq k =
+    go (k .one) (k .two) (k .here) (k .there) (k .same) (k .steps) (k .room)
   where
-    go : (one two : Tree) → Den m x one → Den m y two → sameTree s t ≡ (sameTree one two && allSame (k .rest)) → budget + (cells one + weight (k .rest)) ≤ left + cells s
+    go : (one two : Tree) → Den m x one → Den m y two → sameTree s t ≡ (sameTree one two && allSame (k .rest))
+        → budget + (cells one + weight (k .rest)) ≤ left + cells s
         → depth + (cells one + weight (k .rest)) ≤ cells s → Opened m p q depth budget left (k .rest) s t
     go (leaf i l h) two d d′ z u v = absurd (omega (arith, leaf-kind d, ap (λ (g : Slot). g .kind) (leaf-is d), e .0))
-    go (node i a₁ a₂) (leaf i′ l′ h′) d d′ z u v = absurd (omega (arith, leaf-kind d′, ap (λ (g : Slot). g .kind) (leaf-is d′), e .0, e .1))
+    go (node i a₁ a₂) (leaf i′ l′ h′) d d′ z u v = absurd
+        (omega (arith, leaf-kind d′, ap (λ (g : Slot). g .kind) (leaf-is d′), e .0, e .1))
     go (node i a₁ a₂) (node i′ b₁ b₂) d d′ z u v =
         let kinds : eqb i i′ ≡ true = eq-eqb i i′ (sym (node-is d) ∙ (e .1 ∙ node-is d′)) in
         record {
@@ -140,14 +163,17 @@ opened {m} {w} {x} {y} {depth} {budget} {left} {s} {t} p q e bp bq k = go (k .on
           left-two = subst (λ (g : Slot). Den m g b₁) (sym (bq .0)) (node-left d′);
           right-one = subst (λ (g : Slot). Den m g a₂) (sym (bp .1)) (node-right d);
           right-two = subst (λ (g : Slot). Den m g b₂) (sym (bq .1)) (node-right d′);
-          same = z ∙ (ap (λ g. (g && (sameTree a₁ b₁ && sameTree a₂ b₂)) && allSame (k .rest)) kinds ∙ and-assoc (sameTree a₁ b₁) (sameTree a₂ b₂) (allSame (k .rest)));
+          same = z ∙ (ap (λ g. (g && (sameTree a₁ b₁ && sameTree a₂ b₂)) && allSame (k .rest)) kinds ∙ and-assoc
+              (sameTree a₁ b₁) (sameTree a₂ b₂) (allSame (k .rest)));
           steps = omega arith;
           room = omega arith;
         }
 
 -- the left slots are compared next, and the right ones wait
-pub comparing-lefts : {m : Store} (w w′ : List ℕ) {x y : Slot} (depth : ℕ) {budget left : ℕ} {s t : Tree} (p q : Cell) → Told x y Parts → 0 < left
-    → p .left ≡ leftOf (m .words) x → p .right ≡ rightOf (m .words) x → q .left ≡ leftOf (m .words) y → q .right ≡ rightOf (m .words) y
+pub comparing-lefts : {m : Store} (w w′ : List ℕ) {x y : Slot} (depth : ℕ) {budget left : ℕ} {s t : Tree} (p q : Cell)
+    → Told x y Parts → 0 < left
+    → p .left ≡ leftOf (m .words) x → p .right ≡ rightOf (m .words) x → q .left ≡ leftOf (m .words) y
+    → q .right ≡ rightOf (m .words) y
     → WroteCell w w′ depth (record { left = p .right; right = q .right }) → Comparing m w x y depth budget left s t
     → Comparing m w′ (p .left) (q .left) (depth + 1) budget (left - 1) s t
 comparing-lefts {m} w w′ depth p q e b pl pr ql qr r k =
@@ -160,9 +186,12 @@ comparing-lefts {m} w w′ depth p q e b pl pr ql qr r k =
       there = o .left-two;
       long = omega (arith, k .long);
       stand = (
-        subst (λ n. Den m (slotAt w′ (2 * n)) (o .rights .one)) (k .long) (subst (λ (g : Slot). Den m g (o .rights .one)) (sym (r .left)) (o .right-one)),
-        subst (λ n. Den m (slotAt w′ (2 * n + 1)) (o .rights .two)) (k .long) (subst (λ (g : Slot). Den m g (o .rights .two)) (sym (r .right)) (o .right-two)),
-        pairs-same m w w′ (k .rest) (λ i h. r .other i (λ g. omega (arith, k .long)) (λ g. omega (arith, k .long))) (k .stand),
+        subst (λ n. Den m (slotAt w′ (2 * n)) (o .rights .one)) (k .long)
+            (subst (λ (g : Slot). Den m g (o .rights .one)) (sym (r .left)) (o .right-one)),
+        subst (λ n. Den m (slotAt w′ (2 * n + 1)) (o .rights .two)) (k .long)
+            (subst (λ (g : Slot). Den m g (o .rights .two)) (sym (r .right)) (o .right-two)),
+        pairs-same m w w′ (k .rest) (λ i h. r .other i (λ g. omega (arith, k .long)) (λ g. omega (arith, k .long)))
+            (k .stand),
       );
       same = o .same;
       steps = omega (arith, b, o .steps);
@@ -170,9 +199,12 @@ comparing-lefts {m} w w′ depth p q e b pl pr ql qr r k =
     }
 
 -- the left slots are alike: the right ones are compared next
-pub comparing-rights : {m : Store} {w : List ℕ} {x y : Slot} {depth budget left : ℕ} {s t : Tree} (p q : Cell) → Told x y Parts → 0 < left
-    → p .left ≡ leftOf (m .words) x → p .right ≡ rightOf (m .words) x → q .left ≡ leftOf (m .words) y → q .right ≡ rightOf (m .words) y
-    → p .left ≡ q .left → Comparing m w x y depth budget left s t → Comparing m w (p .right) (q .right) depth budget (left - 1) s t
+pub comparing-rights : {m : Store} {w : List ℕ} {x y : Slot} {depth budget left : ℕ} {s t : Tree} (p q : Cell)
+    → Told x y Parts → 0 < left
+    → p .left ≡ leftOf (m .words) x → p .right ≡ rightOf (m .words) x → q .left ≡ leftOf (m .words) y
+    → q .right ≡ rightOf (m .words) y
+    → p .left ≡ q .left → Comparing m w x y depth budget left s t
+    → Comparing m w (p .right) (q .right) depth budget (left - 1) s t
 comparing-rights p q e b pl pr ql qr alike k =
     let o = opened p q e (pl, pr) (ql, qr) k in
     record {
@@ -184,13 +216,15 @@ comparing-rights p q e b pl pr ql qr alike k =
       long = k .long;
       stand = k .stand;
       same = o .same
-          ∙ ap (λ g. g && (sameTree (o .rights .one) (o .rights .two) && allSame (k .rest))) (alike-same (o .lefts .one) (o .lefts .two) alike (o .left-one) (o .left-two));
+          ∙ ap (λ g. g && (sameTree (o .rights .one) (o .rights .two) && allSame (k .rest)))
+          (alike-same (o .lefts .one) (o .lefts .two) alike (o .left-one) (o .left-two));
       steps = omega (arith, b, o .steps);
       room = omega (arith, o .room);
     }
 
 -- a pair that is opened is a cell more of the first tree
-pub comparing-short : {m : Store} {w : List ℕ} {x y : Slot} {depth budget left : ℕ} {s t : Tree} → Told x y Parts → Comparing m w x y depth budget left s t
+pub comparing-short : {m : Store} {w : List ℕ} {x y : Slot} {depth budget left : ℕ} {s t : Tree} → Told x y Parts
+    → Comparing m w x y depth budget left s t
     → (depth < cells s) × (budget < left + cells s)
 comparing-short {m} {w} {x} {y} e k =
     let p : Cell = record { left = leftOf (m .words) x; right = rightOf (m .words) x } in

@@ -1,10 +1,13 @@
 -- The laws of the store: all that other crates use of it, in the order in which a reader needs them.
--- A slot of a store denotes a tree (`Den`). Reading goes down the tree, making a cell puts two trees together, and nothing that
+-- A slot of a store denotes a tree (`Den`). Reading goes down the tree, making a cell puts two trees together, and
+-- nothing that
 -- was denoted is lost; places never show.
 use mathlib.Core.Path.{_≡_, refl, sym, ap, subst, _∙_}
 use mathlib.Core.Bool.{true}
+use mathlib.Core.List.{List, _++_}
 use Prim.Native.Nat.{ℕ, _+_, _*_, _≤_, _<_}
 use native.Mathlib.Omega.{arith}
+use lib.ListN.{length, take}
 use borrow.Author.Tests.{eq-eqb}
 use Rattle.store.specs.Heap.{Store, leftOf, rightOf, Denotes, Den, Kept}
 use Rattle.store.specs.Slots.{slotAt, placeOf}
@@ -12,7 +15,7 @@ use Rattle.store.specs.Tree.{Tree, leaf, node, spine, sameTree}
 use Rattle.store.specs.declared.slot.Slot.{Slot}
 use Rattle.store.proofs.Denoting.{denotes-kept, denotes-one}
 use Rattle.store.proofs.Spines.{denotes-spine}
-use Rattle.store.proofs.Words.{slot-parts}
+use Rattle.store.proofs.Words.{slot-append, slot-parts, slot-take}
 
 -- A slot of a kind below 16 denotes the leaf of its own words, in every store.
 pub leaf-stands : {m : Store} (k l h : ℕ) → k < 16 → Den m (record { kind = k; low = l; high = h }) (leaf k l h)
@@ -46,7 +49,8 @@ node-right d = record { is = d .is .4 }
 
 -- What a slot of a kind below 16 denotes is the leaf of its words.
 pub is-leaf : {m : Store} {s : Slot} (t : Tree) → s .kind < 16 → Den m s t → t ≡ leaf (s .kind) (s .low) (s .high)
-is-leaf {m} {s} (leaf k l h) b d = let p : s .kind ≡ k = d .is .1 in let q : s .low ≡ l = d .is .2 in let r : s .high ≡ h = d .is .3 in cc
+is-leaf {m} {s} (leaf k l h) b d = let p : s .kind ≡ k = d .is .1 in let q : s .low ≡ l = d .is .2 in
+    let r : s .high ≡ h = d .is .3 in cc
 is-leaf (node k a b′) b d = absurd (omega (arith, d .is .0))
 
 -- What a slot of another kind denotes is a node of that kind, whose trees its cell's slots denote.
@@ -71,7 +75,11 @@ pub kept-refl : {m : Store} → Kept m m
 kept-refl = record { more = omega arith; same = λ j h. refl }
 
 pub kept-trans : {m₀ m₁ m₂ : Store} → Kept m₀ m₁ → Kept m₁ m₂ → Kept m₀ m₂
-kept-trans g h = record { more = omega (arith, g .more, h .more); same = λ j b. h .same j (omega (arith, g .more)) ∙ g .same j b }
+kept-trans g h = record {
+  more = omega (arith, g .more, h .more);
+  same = λ j b. h .same j (omega (arith, g .more)) ∙
+      g .same j b;
+}
 
 -- .. and what was denoted is denoted.
 pub keeps : {m m′ : Store} {s : Slot} {t : Tree} → Kept m m′ → Den m s t → Den m′ s t
@@ -89,3 +97,12 @@ spine-fits {m} {s} {t} d = denotes-spine (m .words) (m .used) s t (d .is)
 pub sameTree-refl : (t : Tree) → sameTree t t ≡ true
 sameTree-refl (leaf k l h) = rw (eq-eqb k k refl, eq-eqb l l refl, eq-eqb h h refl) refl
 sameTree-refl (node k a b) = rw (eq-eqb k k refl, sameTree-refl a, sameTree-refl b) refl
+
+-- A slot of a part of some words that begins where they do is theirs, ..
+pub slot-of-front : (n : ℕ) (words : List ℕ) (j : ℕ) → 3 * j + 3 ≤ n → slotAt (take n words) j ≡ slotAt words j
+slot-of-front = slot-take
+
+-- .. and so is one of words that others follow.
+pub slot-of-longer : (words more : List ℕ) (j : ℕ) → 3 * j + 3 ≤ length words
+    → slotAt (words ++ more) j ≡ slotAt words j
+slot-of-longer = slot-append

@@ -1,5 +1,6 @@
 -- A right edge is at most as long as the cells in use.
--- The cells on it are all different, since a cell denotes one tree, and the trees on the edge differ in length; so there are no
+-- The cells on it are all different, since a cell denotes one tree, and the trees on the edge differ in length; so
+-- there are no
 -- more of them than numbers below `used`.
 use mathlib.Core.Path.{_≡_, refl, sym, ap, subst, _∙_}
 use mathlib.Core.Bool.{cond}
@@ -28,13 +29,15 @@ swapped-is m v x =
     ]
 
 -- the pigeonhole principle: n different numbers below m are at most m
-pigeonhole : (m n : ℕ) (f : ℕ → ℕ) → ((i : ℕ) → i < n → f i < m) → ((i j : ℕ) → i < n → j < n → f i ≡ f j → i ≡ j) → n ≤ m
+pigeonhole : (m n : ℕ) (f : ℕ → ℕ) → ((i : ℕ) → i < n → f i < m) → ((i j : ℕ) → i < n → j < n → f i ≡ f j → i ≡ j)
+    → n ≤ m
 pigeonhole m zero f b e = omega arith
 pigeonhole zero (suc n) f b e = absurd (omega (arith, b 0 (omega arith)))
 pigeonhole (suc m) (suc n) f b e =
     let le : n ≤ m = pigeonhole m n (λ i. swapped m (f n) (f i))
     (λ i h. elim (swapped-is m (f n) (f i)) [
-      | inl p ↦ let ne : f n ≡ m → ⊥ = λ q. (let w : i ≡ n = e i n (omega arith) (omega arith) (p .0 ∙ sym q) in omega arith) in
+      | inl p ↦ let ne : f n ≡ m → ⊥ = λ q.
+          (let w : i ≡ n = e i n (omega arith) (omega arith) (p .0 ∙ sym q) in omega arith) in
           let lt : f n < suc m = b n (omega arith) in omega (arith, p .1)
       | inr p ↦ let lt : f i < suc m = b i (omega arith) in omega (arith, p .1, p .0)
     ])
@@ -53,7 +56,8 @@ pigeonhole (suc m) (suc n) f b e =
 -- the cell on the edge that has i nodes below it
 edgeCell : List ℕ → Slot → Tree → ℕ → ℕ
 edgeCell words s (leaf k l h) i = 0
-edgeCell words s (node k a b) i = cond (eqb i (spine b)) (placeOf s) (edgeCell words (slotAt words (2 * placeOf s + 1)) b i)
+edgeCell words s (node k a b) i =
+    cond (eqb i (spine b)) (placeOf s) (edgeCell words (slotAt words (2 * placeOf s + 1)) b i)
 
 record OnEdge (words : List ℕ) (used c i : ℕ) : Type 0 where
   within : c < used
@@ -61,14 +65,17 @@ record OnEdge (words : List ℕ) (used c i : ℕ) : Type 0 where
   right : Denotes words used (slotAt words (2 * c + 1)) tree
   below : spine tree ≡ i
 
-on-edge : (words : List ℕ) (used : ℕ) (s : Slot) (t : Tree) (i : ℕ) → Denotes words used s t → i < spine t → OnEdge words used (edgeCell words s t i) i
+on-edge : (words : List ℕ) (used : ℕ) (s : Slot) (t : Tree) (i : ℕ) → Denotes words used s t → i < spine t
+    → OnEdge words used (edgeCell words s t i) i
 unfolding edgeCell
 on-edge words used s (leaf k l h) i d lt = absurd (omega arith)
 on-edge words used s (node k a b) i d lt =
     elim (eqb-tells i (spine b)) [
-      | inl p ↦ subst (λ z. OnEdge words used (cond z (placeOf s) (edgeCell words (slotAt words (2 * placeOf s + 1)) b i)) i) (sym (p .0))
+      | inl p ↦ subst (λ z. OnEdge words used
+          (cond z (placeOf s) (edgeCell words (slotAt words (2 * placeOf s + 1)) b i)) i) (sym (p .0))
           (record { within = d .2; tree = b; right = d .4; below = sym (p .1) })
-      | inr p ↦ subst (λ z. OnEdge words used (cond z (placeOf s) (edgeCell words (slotAt words (2 * placeOf s + 1)) b i)) i) (sym (p .0))
+      | inr p ↦ subst (λ z. OnEdge words used
+          (cond z (placeOf s) (edgeCell words (slotAt words (2 * placeOf s + 1)) b i)) i) (sym (p .0))
           (on-edge words used (slotAt words (2 * placeOf s + 1)) b i (d .4) (omega (arith, p .1)))
     ]
 
@@ -79,6 +86,7 @@ denotes-spine words used s t d =
     (λ i j h k q.
     let x = on-edge words used s t i d h in
     let y = on-edge words used s t j d k in
-    let trees : x .tree ≡ y .tree = denotes-one words used (slotAt words (2 * edgeCell words s t i + 1)) (x .tree) (y .tree) (x .right)
+    let trees : x .tree ≡ y .tree =
+    denotes-one words used (slotAt words (2 * edgeCell words s t i + 1)) (x .tree) (y .tree) (x .right)
     (subst (λ c. Denotes words used (slotAt words (2 * c + 1)) (y .tree)) (sym q) (y .right)) in
     sym (x .below) ∙ (ap spine trees ∙ y .below))

@@ -17,7 +17,8 @@ pub record Roots (m : Store) (roots : List ℕ) (ts : List Tree) : Type 0 where
 
 -- each root denotes what it did, in a store of exactly the cells that the roots' trees take unshared
 pub record Collected (from to′ roots roots′ : List ℕ) (used : ℕ) : Type 0 where
-  pub stands : {top : ℕ} {t : Tree} (i : ℕ) → i < length roots / 3 → Den (storeOf from top) (slotAt roots i) t → Den (storeOf to′ used) (slotAt roots′ i) t
+  pub stands : {top : ℕ} {t : Tree} (i : ℕ) → i < length roots / 3 → Den (storeOf from top) (slotAt roots i) t
+      → Den (storeOf to′ used) (slotAt roots′ i) t
   pub count : {top : ℕ} (ts : List Tree) → Roots (storeOf from top) roots ts → used ≡ total ts
   pub fits : 6 * used ≤ length to′
   pub rest : (i : ℕ) → length roots / 3 ≤ i → slotAt roots′ i ≡ slotAt roots i
@@ -44,7 +45,8 @@ pub record Redirected (c : ℕ) (s s′ : Slot) : Type 0 where
 -- the cell that s refers to in `from`, if any, stands at the end of `to′`
 pub record Copied (from to′ : List ℕ) (used used′ : ℕ) (s : Slot) : Type 0 where
   pub count : used′ ≡ used + own s
-  pub cell : 16 ≤ s .kind → (slotAt to′ (2 * used) ≡ slotAt from (2 * placeOf s)) × (slotAt to′ (2 * used + 1) ≡ slotAt from (2 * placeOf s + 1))
+  pub cell : 16 ≤ s .kind
+      → (slotAt to′ (2 * used) ≡ slotAt from (2 * placeOf s)) × (slotAt to′ (2 * used + 1) ≡ slotAt from (2 * placeOf s + 1))
 
 -- .. and all else is as it was
 pub record Appended (from to to′ : List ℕ) (used used′ : ℕ) (s : Slot) : Type 0 where
@@ -52,7 +54,8 @@ pub record Appended (from to to′ : List ℕ) (used used′ : ℕ) (s : Slot) :
   pub kept : Kept (storeOf to used) (storeOf to′ used′)
   pub fits : 6 * used′ ≤ length to′
 
--- what a slot denotes in a store that is half copied: slots below `scan` refer to `to` itself, the others still to `from`
+-- what a slot denotes in a store that is half copied: slots below `scan` refer to `to` itself, the others still to
+-- `from`
 abbrev pub Mixed : Store → List ℕ → ℕ → ℕ → Slot → Tree → Type 0
 Mixed from to scan used s (leaf k l h) = (s .kind < 16) × (s .kind ≡ k) × (s .low ≡ l) × (s .high ≡ h)
 Mixed from to scan used s (node k a b) =
@@ -74,7 +77,8 @@ pub record RootsCopied (from to′ roots : List ℕ) (used : ℕ) : Type 0 where
   pub fits : 6 * used ≤ length to′
   pub stands : (top i : ℕ) (t : Tree) (s′ : Slot) → i < length roots / 3 → Den (storeOf from top) (slotAt roots i) t
       → Redirected (ownBelow roots i) (slotAt roots i) s′ → Mixed (storeOf from top) to′ 0 used s′ t
-  pub waiting : (top : ℕ) (ts : List Tree) → Roots (storeOf from top) roots ts → Waiting (storeOf from top) to′ 0 used (total ts)
+  pub waiting : (top : ℕ) (ts : List Tree) → Roots (storeOf from top) roots ts
+      → Waiting (storeOf from top) to′ 0 used (total ts)
 
 -- nothing refers to `from` any more
 pub record Scanned (from to to′ : List ℕ) (start used : ℕ) : Type 0 where

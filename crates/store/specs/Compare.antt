@@ -1,4 +1,5 @@
--- Whether two slots denote the same tree, and how a comparison stands: one pair at hand, and a stack of pairs that wait.
+-- Whether two slots denote the same tree, and how a comparison stands: one pair at hand, and a stack of pairs that
+-- wait.
 use mathlib.Core.Bool.{Bool, true, _&&_}
 use mathlib.Core.List.{List, [], _∷_}
 use mathlib.Core.Logic.{_⊎_}
@@ -18,7 +19,8 @@ pub record Answers (words : List ℕ) (a b : Slot) (answer : Bool) : Type 0 wher
 
 -- the first tree has more cells than the scratch has, or than may be looked at
 pub record TooLarge (words : List ℕ) (a b : Slot) (scratch : List ℕ) (budget : ℕ) : Type 0 where
-  pub short : {used : ℕ} {s t : Tree} → Den (storeOf words used) a s → Den (storeOf words used) b t → (length scratch < 6 * cells s) ⊎ (budget < cells s)
+  pub short : {used : ℕ} {s t : Tree} → Den (storeOf words used) a s → Den (storeOf words used) b t
+      → (length scratch < 6 * cells s) ⊎ (budget < cells s)
 
 -- what two slots tell by themselves: slots that are alike denote one tree, whatever stands in their cell
 abbrev pub Told : Slot → Slot → Compared → Type 0
@@ -42,7 +44,8 @@ weight (p ∷ ps) = cells (p .one) + weight ps
 abbrev pub Pairs : Store → List ℕ → List Pair → Type 0
 Pairs m scratch [] = Unit {0}
 Pairs m scratch (p ∷ ps) =
-    Den m (slotAt scratch (2 * length ps)) (p .one) × Den m (slotAt scratch (2 * length ps + 1)) (p .two) × Pairs m scratch ps
+    Den m (slotAt scratch (2 * length ps)) (p .one) × Den m (slotAt scratch (2 * length ps + 1)) (p .two) × Pairs m
+    scratch ps
 
 -- s and t are the same if the pair x, y at hand and those that wait are; no cell of s is looked at twice
 pub record Comparing (m : Store) (scratch : List ℕ) (x y : Slot) (depth budget left : ℕ) (s t : Tree) : Type 0 where

@@ -7,5 +7,6 @@ use Rattle.store.proofs.collector.redirect_roots.Given as given
 abbrev pub Inv-loop-i : given.InvT-loop-i
 Inv-loop-i l =
     (l .next ≤ l .i) × (l .next ≡ ownBelow (l .entry .roots) (l .i))
-    × ((k : ℕ) → k < l .i → Redirected (ownBelow (l .entry .roots) k) (slotAt (l .entry .roots) k) (slotAt (l .roots) k))
+    × ((k : ℕ) → k < l .i → Redirected (ownBelow (l .entry .roots) k) (slotAt (l .entry .roots) k)
+    (slotAt (l .roots) k))
     × ((k : ℕ) → l .i ≤ k → slotAt (l .roots) k ≡ slotAt (l .entry .roots) k)

@@ -11,22 +11,30 @@ use Rattle.store.proofs.collector.scan.Needs as need
 
 pub returns-in-Err : need.returns-in-Err
 returns-in-Err c = λ top sum q.
-    let n = next (storeOf (c .args .from .now) top) (c .loop-j .to) (c .loop-j .j) (c .loop-j .used) sum (c .loop-j-test .taken) (c .loop-j .inv .2 top sum q) in
+    let n =
+    next (storeOf (c .args .from .now) top) (c .loop-j .to) (c .loop-j .j) (c .loop-j .used) sum
+    (c .loop-j-test .taken) (c .loop-j .inv .2 top sum q) in
     let one : 1 ≤ cells (n .tree) = takes-cell (n .tree) (c .in-Err .ensures tt .0)
-    (subst (λ (q : Slot). Den (storeOf (c .args .from .now) top) q (n .tree)) (sym (c .load-slot-slot .ensures)) (n .here)) in
+    (subst (λ (q : Slot). Den (storeOf (c .args .from .now) top) q (n .tree)) (sym (c .load-slot-slot .ensures))
+    (n .here)) in
     omega (arith, n .adds, one, c .in-Err .ensures tt .1, c .loop-j .kept .to)
 
 pub loop-j-again : need.loop-j-again
 loop-j-again c =
-    let a : Appended (c .args .from .now) (c .loop-j .to) (c .copy-cell .last .to) (c .loop-j .used) (c .in-Ok .next) (slotAt (c .loop-j .to) (c .loop-j .j))
-    = subst (λ (q : Slot). Appended (c .args .from .now) (c .loop-j .to) (c .copy-cell .last .to) (c .loop-j .used) (c .in-Ok .next) q) (c .load-slot-slot .ensures) (c .in-Ok .ensures tt) in
+    let a : Appended (c .args .from .now) (c .loop-j .to) (c .copy-cell .last .to) (c .loop-j .used) (c .in-Ok .next)
+    (slotAt (c .loop-j .to) (c .loop-j .j))
+    = subst (λ (q : Slot). Appended (c .args .from .now) (c .loop-j .to) (c .copy-cell .last .to) (c .loop-j .used)
+    (c .in-Ok .next) q) (c .load-slot-slot .ensures) (c .in-Ok .ensures tt) in
     let r : Redirected (c .loop-j .used) (slotAt (c .loop-j .to) (c .loop-j .j)) (c .redirected .result)
-    = subst (λ (q : Slot). Redirected (c .loop-j .used) q (c .redirected .result)) (c .load-slot-slot .ensures) (c .redirected .ensures) in (
+    = subst (λ (q : Slot). Redirected (c .loop-j .used) q (c .redirected .result)) (c .load-slot-slot .ensures)
+    (c .redirected .ensures) in (
       omega (arith, a .fits, c .set-slot .kept),
       omega (arith, a .kept .more, c .loop-j-test .taken),
-      (λ top sum q. waiting-step (storeOf (c .args .from .now) top) (c .loop-j .to) (c .copy-cell .last .to) (c .set-slot .last .words) (c .loop-j .used) (c .in-Ok .next) (c .loop-j .j) sum (c .redirected .result)
+      (λ top sum q. waiting-step (storeOf (c .args .from .now) top) (c .loop-j .to) (c .copy-cell .last .to)
+          (c .set-slot .last .words) (c .loop-j .used) (c .in-Ok .next) (c .loop-j .j) sum (c .redirected .result)
           (c .loop-j-test .taken) a r (c .set-slot .ensures) (c .loop-j .inv .2 top sum q)),
-      (λ top s t d. mixed-step (storeOf (c .args .from .now) top) (c .loop-j .to) (c .copy-cell .last .to) (c .set-slot .last .words) (c .loop-j .used) (c .in-Ok .next) (c .loop-j .j) (c .redirected .result)
+      (λ top s t d. mixed-step (storeOf (c .args .from .now) top) (c .loop-j .to) (c .copy-cell .last .to)
+          (c .set-slot .last .words) (c .loop-j .used) (c .in-Ok .next) (c .loop-j .j) (c .redirected .result)
           (c .loop-j-test .taken) a r (c .set-slot .ensures) s t (c .loop-j .inv .3 top s t d)),
     )
 
@@ -34,6 +42,10 @@ pub returns : need.returns
 returns c =
     record {
       fits = c .loop-j .inv .0;
-      stands = λ top s t d. record { is = mixed-done (storeOf (c .args .from .now) top) (c .loop-j .to) (c .loop-j .j) (c .loop-j .used) s t (c .loop-j-test .left) (c .loop-j .inv .3 top s t d) };
-      count = λ top sum q. waiting-done (storeOf (c .args .from .now) top) (c .loop-j .to) (c .loop-j .j) (c .loop-j .used) sum (c .loop-j-test .left) (c .loop-j .inv .2 top sum q);
+      stands = λ top s t d. record {
+        is = mixed-done (storeOf (c .args .from .now) top) (c .loop-j .to) (c .loop-j .j)
+            (c .loop-j .used) s t (c .loop-j-test .left) (c .loop-j .inv .3 top s t d);
+      };
+      count = λ top sum q. waiting-done (storeOf (c .args .from .now) top) (c .loop-j .to) (c .loop-j .j)
+          (c .loop-j .used) sum (c .loop-j-test .left) (c .loop-j .inv .2 top sum q);
     }

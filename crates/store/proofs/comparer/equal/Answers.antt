@@ -14,14 +14,20 @@ use Rattle.store.proofs.comparer.equal.Needs as need
 pub returns-in-Differ : need.returns-in-Differ
 returns-in-Differ c =
     record {
-      cases = record { is = λ {used} {s} {t} d e. comparing-differs (c .in-Differ .ensures tt) (c .pairs .inv .0 used s t d e) };
+      cases = record {
+        is = λ {used} {s} {t} d e. comparing-differs (c .in-Differ .ensures tt)
+            (c .pairs .inv .0 used s t d e);
+      };
       alike = λ e. absurd (alike-told (c .in-Differ .ensures tt) (c .pairs .inv .1 e .0));
     }
 
 pub returns-then-depth-eq0 : need.returns-then-depth-eq0
 returns-then-depth-eq0 c =
     record {
-      cases = record { is = λ {used} {s} {t} d e. comparing-done (c .in-Same .ensures tt) (c .if-depth-eq0 .taken) (c .pairs .inv .0 used s t d e) };
+      cases = record {
+        is = λ {used} {s} {t} d e. comparing-done (c .in-Same .ensures tt) (c .if-depth-eq0 .taken)
+            (c .pairs .inv .0 used s t d e);
+      };
       alike = λ e. refl;
     }
 
@@ -29,23 +35,41 @@ pub pairs-again-in-Same : need.pairs-again-in-Same
 pairs-again-in-Same c =
     let some : 0 < c .pairs .depth = omega (arith, c .if-depth-eq0 .left) in (
       (λ used s t d e.
-          subst (λ (q : Cell). Comparing (storeOf (c .args .words .now) used) (c .pairs .scratch) (q .left) (q .right) (c .pairs .depth - 1) (c .args .budget) (c .pairs .left) s t)
+          subst (λ (q : Cell). Comparing (storeOf (c .args .words .now) used) (c .pairs .scratch) (q .left) (q .right)
+          (c .pairs .depth - 1) (c .args .budget) (c .pairs .left) s t)
           (sym (c .read-cell-pair .ensures))
-          (comparing-next (c .pairs .scratch) (c .pairs .depth) (c .in-Same .ensures tt) some (c .pairs .inv .0 used s t d e))),
+          (comparing-next (c .pairs .scratch) (c .pairs .depth) (c .in-Same .ensures tt) some
+          (c .pairs .inv .0 used s t d e))),
       (λ e. absurd (c .if-depth-eq0 .left (c .pairs .inv .1 e .1))),
     )
 
 pub returns-then-left-eq0 : need.returns-then-left-eq0
 returns-then-left-eq0 c =
     record {
-      cases = record { short = λ {used} {s} {t} d e. inr (omega (arith, comparing-short (c .in-Parts .ensures tt) (c .pairs .inv .0 used s t d e), c .if-left-eq0 .taken)) };
+      cases = record {
+        short = λ {used} {s} {t} d e. inr
+            (omega (
+              arith,
+              comparing-short (c .in-Parts .ensures tt) (c .pairs .inv .0 used s t d e),
+              c .if-left-eq0 .taken,
+            ));
+      };
       alike = λ e. absurd (c .in-Parts .ensures tt .2 (c .pairs .inv .1 e .0));
     }
 
 pub returns-in-Err : need.returns-in-Err
 returns-in-Err c =
     record {
-      cases = record { short = λ {used} {s} {t} d e. inl (omega (arith, comparing-short (c .in-Parts .ensures tt) (c .pairs .inv .0 used s t d e), c .in-Err .ensures tt .0, c .pairs .kept .scratch)) };
+      cases = record {
+        short = λ {used} {s} {t} d e. inl
+            (omega (
+              arith,
+              comparing-short (c .in-Parts .ensures tt) (c .pairs .inv .0 used s t d e),
+              c .in-Err .ensures
+                  tt .0,
+              c .pairs .kept .scratch,
+            ));
+      };
       alike = λ e. absurd (c .in-Parts .ensures tt .2 (c .pairs .inv .1 e .0));
     }
 
@@ -53,8 +77,10 @@ pub pairs-again : need.pairs-again
 pairs-again c =
     let some : 0 < c .pairs .left = omega (arith, c .if-left-eq0 .left) in (
       (λ used s t d e.
-          comparing-lefts (c .pairs .scratch) (c .write-cell .last .words) (c .pairs .depth) (c .both-one .result) (c .both-two .result) (c .in-Parts .ensures tt) some
-          (c .both-one .ensures .left) (c .both-one .ensures .right) (c .both-two .ensures .left) (c .both-two .ensures .right)
+          comparing-lefts (c .pairs .scratch) (c .write-cell .last .words) (c .pairs .depth) (c .both-one .result)
+          (c .both-two .result) (c .in-Parts .ensures tt) some
+          (c .both-one .ensures .left) (c .both-one .ensures .right) (c .both-two .ensures .left)
+          (c .both-two .ensures .right)
           (c .in-Ok .ensures tt .1) (c .pairs .inv .0 used s t d e)),
       (λ e. absurd (c .in-Parts .ensures tt .2 (c .pairs .inv .1 e .0))),
     )
@@ -65,7 +91,8 @@ pairs-again-then-eq c =
     let alike : c .both-one .result .left ≡ c .both-two .result .left = search needs in (
       (λ used s t d e.
           comparing-rights (c .both-one .result) (c .both-two .result) (c .in-Parts .ensures tt) some
-          (c .both-one .ensures .left) (c .both-one .ensures .right) (c .both-two .ensures .left) (c .both-two .ensures .right)
+          (c .both-one .ensures .left) (c .both-one .ensures .right) (c .both-two .ensures .left)
+          (c .both-two .ensures .right)
           alike (c .pairs .inv .0 used s t d e)),
       (λ e. absurd (c .in-Parts .ensures tt .2 (c .pairs .inv .1 e .0))),
     )

@@ -9,6 +9,8 @@ pub returns : need.returns
 unfolding leftOf rightOf
 returns c =
     record {
-      left = ap (λ (x : Cell). x .left) (c .read-cell .ensures) ∙ ap (λ n. slotAt (c .args .words .now) (2 * n)) (c .place .ensures);
-      right = ap (λ (x : Cell). x .right) (c .read-cell .ensures) ∙ ap (λ n. slotAt (c .args .words .now) (2 * n + 1)) (c .place .ensures);
+      left = ap (λ (x : Cell). x .left) (c .read-cell .ensures) ∙ ap (λ n. slotAt (c .args .words .now) (2 * n))
+          (c .place .ensures);
+      right = ap (λ (x : Cell). x .right) (c .read-cell .ensures) ∙ ap (λ n. slotAt (c .args .words .now) (2 * n + 1))
+          (c .place .ensures);
     }

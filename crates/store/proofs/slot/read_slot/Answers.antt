@@ -7,4 +7,6 @@ pub returns-then-j-whole-2 : need.returns-then-j-whole-2
 returns-then-j-whole-2 c = sym (slot-past (c .args .words .now) (c .args .j) (omega arith))
 
 pub returns : need.returns
-returns c = sym (slot-is (c .args .words .now) (c .args .j) _ (sym (c .word .ensures)) (sym (c .word-2 .ensures)) (sym (c .word-3 .ensures)))
+returns c =
+    sym (slot-is (c .args .words .now) (c .args .j) _ (sym (c .word .ensures)) (sym (c .word-2 .ensures))
+    (sym (c .word-3 .ensures)))
