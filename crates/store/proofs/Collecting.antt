@@ -1,27 +1,23 @@
--- Copying is exact and loses nothing.
--- While the scan stands at slot `scan`, each slot below it refers to the copies and each later one to `from`;
--- scanning a slot
--- moves one slot over that line and puts at most one cell at the end (`mixed-step`). The trees that wait at the slots
--- from
--- `scan` on, with the cells in use, add up to the same number at each step (`waiting-step`), which is the number of
--- cells in the end.
+-- Copying loses nothing and is exact.
+-- While the scan stands at slot `scan`, each slot below it refers to the copies, and each later one to `from`. To scan a
+-- slot moves it over that line and puts at most one cell at the end (`mixed-step`). The cells in use and those of the
+-- trees that wait at the later slots have one sum all the time (`waiting-step`), so that is the number in the end.
 use mathlib.Core.Path.{_≡_, refl, sym, ap, subst, _∙_}
 use mathlib.Core.List.{List, [], _∷_, _++_}
 use mathlib.Core.Logic.{_⊎_, inl, inr}
-use Prim.Native.Nat.{ℕ, zero, suc, _+_, _*_, _/_, _≤_, _<_}
+use Prim.Native.Nat.{ℕ, _+_, _*_, _/_, _≤_, _<_}
 use native.Mathlib.Numerals.{add-one}
 use native.Mathlib.Omega.{arith}
 use lib.ListN.{length}
 use Rattle.std.proofs.shelf.Lists.{length-append}
 use Rattle.std.proofs.shelf.Tests.{cases-lt, cond-true, cond-false, lt-ltb, le-ltb}
 use Rattle.store.specs.Collect.{own, ownBelow, Redirected, Copied, Appended, Mixed, Waiting, Roots}
-use Rattle.store.specs.Heap.{Store, storeOf, Denotes, Den, Kept, Slots}
+use Rattle.store.specs.Heap.{Store, storeOf, leftOf, rightOf, BothOf, Denotes, Den, Kept, Slots}
 use Rattle.store.specs.Slots.{slotAt, placeOf, Wrote, WroteCell}
 use Rattle.store.specs.Tree.{Tree, leaf, node, cells, total}
 use Rattle.store.specs.declared.slot.Cell.{Cell}
 use Rattle.store.specs.declared.slot.Slot.{Slot}
 use Rattle.store.proofs.Denoting.{kept-cell}
-use Rattle.store.proofs.Laws.{kept-refl}
 
 -- one slot and its cell
 
@@ -37,24 +33,23 @@ own-one s = elim (cases-lt (s .kind) 16) [ inl l ↦ omega (arith, own-leaf s l)
 pub own-more : (words : List ℕ) (i : ℕ) → ownBelow words (i + 1) ≡ ownBelow words i + own (slotAt words i)
 own-more words i = ap (ownBelow words) (add-one i)
 
-pub appended-leaf : (from to : List ℕ) (used : ℕ) (s : Slot) → 6 * used ≤ length to → s .kind < 16
-    → Appended from to to used used s
-appended-leaf from to used s f h =
-    record {
-      copied = record { count = omega (arith, own-leaf s h); cell = λ b. absurd (omega arith) };
-      kept = kept-refl;
-      fits = f;
-    }
-
 pub appended-node : (from to to′ : List ℕ) (used : ℕ) (s : Slot) (x : Cell) → 6 * (used + 1) ≤ length to′ → 16 ≤ s .kind
-    → x .left ≡ slotAt from (2 * placeOf s) → x .right ≡ slotAt from (2 * placeOf s + 1) → WroteCell to to′ used x
-    → Appended from to to′ used (used + 1) s
-appended-node from to to′ used s x f h p q w =
+    → BothOf from s x → WroteCell to to′ used x → Appended from to to′ used (used + 1) s
+unfolding leftOf rightOf
+appended-node from to to′ used s x f h b w =
     record {
-      copied = record { count = omega (arith, own-node s h); cell = λ b. (w .left ∙ p, w .right ∙ q) };
+      copied = record { count = omega (arith, own-node s h); cell = λ n. (w .left ∙ b .left, w .right ∙ b .right) };
       kept = kept-cell to to′ used w;
       fits = f;
     }
+
+-- what is said of a slot is said of an equal one
+pub appended-at : {from to to′ : List ℕ} {used used′ : ℕ} {s q : Slot} → s ≡ q → Appended from to to′ used used′ s
+    → Appended from to to′ used used′ q
+appended-at {from} {to} {to′} {used} {used′} e a = subst (Appended from to to′ used used′) e a
+
+pub redirected-at : {c : ℕ} {s q s′ : Slot} → s ≡ q → Redirected c s s′ → Redirected c q s′
+redirected-at {c} {s} {q} {s′} e r = subst (λ x. Redirected c x s′) e r
 
 -- a slot whose cell was copied denotes what it did: its cell waits
 pub landed : (from : Store) (to : List ℕ) (used used′ scan : ℕ) (s s′ : Slot) (t : Tree)
@@ -118,7 +113,7 @@ below-or-at : (i n : ℕ) → i < n + 1 → (i < n) ⊎ (i ≡ n)
 below-or-at i n h = grind arith
 
 -- slot `scan` was scanned: its cell was put at the end, and then it was redirected
-module _ (from : Store) (to to₁ to′ : List ℕ) (used used′ scan : ℕ) (s′ : Slot) (lt : scan < 2 * used)
+module _ (from : Store) {to to₁ to′ : List ℕ} {used used′ scan : ℕ} {s′ : Slot} (lt : scan < 2 * used)
     (c : Appended (from .words) to to₁ used used′ (slotAt to scan)) (r : Redirected used (slotAt to scan) s′)
     (w : Wrote to₁ to′ scan s′) where
   same-below : (i : ℕ) → i < 2 * used → (i ≡ scan → ⊥) → slotAt to′ i ≡ slotAt to i
@@ -189,12 +184,12 @@ record NewTrees (from : Store) (to : List ℕ) (used used′ : ℕ) (t : Tree) :
   stand : Slots from to (2 * used) trees
   adds : used′ + total trees ≡ used + cells t
 
-new-trees : (from : Store) (to : List ℕ) (used used′ : ℕ) (s : Slot) (t : Tree) → Copied (from .words) to used used′ s
+new-trees : {from : Store} {to : List ℕ} {used used′ : ℕ} {s : Slot} (t : Tree) → Copied (from .words) to used used′ s
     → Den from s t → NewTrees from to used used′ t
-new-trees from to used used′ s (leaf k l h) c d =
+new-trees {from} {to} {used} {used′} {s} (leaf k l h) c d =
     let none = own-leaf s (d .is .0) in
     record { trees = []; long = omega (arith, c .count); stand = tt; adds = omega (arith, c .count) }
-new-trees from to used used′ s (node k a b) c d =
+new-trees {from} {to} {used} {used′} {s} (node k a b) c d =
     let one = own-node s (d .is .0) in
     let x = c .cell (d .is .0) in
     record {
@@ -221,9 +216,9 @@ pub record Next (from : Store) (to : List ℕ) (scan used sum : ℕ) : Type 0 wh
   pub stand : Slots from to (scan + 1) rest
   pub adds : used + cells tree + total rest ≡ sum
 
-pub next : (from : Store) (to : List ℕ) (scan used sum : ℕ) → scan < 2 * used → Waiting from to scan used sum
+pub next : {from : Store} {to : List ℕ} {scan used sum : ℕ} → scan < 2 * used → Waiting from to scan used sum
     → Next from to scan used sum
-next from to scan used sum lt q = go (q .trees) (q .long) (q .stand) (q .adds)
+next {from} {to} {scan} {used} {sum} lt q = go (q .trees) (q .long) (q .stand) (q .adds)
   where
     go : (ts : List Tree) → scan + length ts ≡ 2 * used → Slots from to scan ts → used + total ts ≡ sum
         → Next from to scan used sum
@@ -238,13 +233,13 @@ next from to scan used sum lt q = go (q .trees) (q .long) (q .stand) (q .adds)
           arith;
     }
 
-pub waiting-step : (from : Store) (to to₁ to′ : List ℕ) (used used′ scan sum : ℕ) (s′ : Slot) → scan < 2 * used
+pub waiting-step : {from : Store} {to to₁ to′ : List ℕ} {used used′ scan sum : ℕ} {s′ : Slot} → scan < 2 * used
     → Appended (from .words) to to₁ used used′ (slotAt to scan) → Redirected used (slotAt to scan) s′
     → Wrote to₁ to′ scan s′
     → Waiting from to scan used sum → Waiting from to′ (scan + 1) used′ sum
-waiting-step from to to₁ to′ used used′ scan sum s′ lt c r w q =
-    let n = next from to scan used sum lt q in
-    let a = new-trees from to₁ used used′ (slotAt to scan) (n .tree) (c .copied) (n .here) in
+waiting-step {from} {to} {to₁} {to′} {used} {used′} {scan} lt c r w q =
+    let n = next lt q in
+    let a = new-trees (n .tree) (c .copied) (n .here) in
     let end : 2 * used ≡ scan + 1 + length (n .rest) = omega (arith, n .long) in
     record {
       trees = n .rest ++ a .trees;
@@ -258,9 +253,9 @@ waiting-step from to to₁ to′ used used′ scan sum s′ lt c r w q =
     }
 
 -- nothing waits: the cells in use are all
-pub waiting-done : (from : Store) (to : List ℕ) (scan used sum : ℕ) → 2 * used ≤ scan → Waiting from to scan used sum
+pub waiting-done : {from : Store} {to : List ℕ} {scan used sum : ℕ} → 2 * used ≤ scan → Waiting from to scan used sum
     → used ≡ sum
-waiting-done from to scan used sum le q = go (q .trees) (q .long) (q .adds)
+waiting-done {from} {to} {scan} {used} {sum} le q = go (q .trees) (q .long) (q .adds)
   where
     go : (ts : List Tree) → scan + length ts ≡ 2 * used → used + total ts ≡ sum → used ≡ sum
     go [] l a = omega arith
@@ -277,9 +272,9 @@ pub record Ahead (from : Store) (to roots : List ℕ) (i n used whole : ℕ) : T
   pub waiting : Waiting from to 0 used sum
   pub adds : sum + total rest ≡ whole
 
-pub ahead-start : (from : Store) (to roots : List ℕ) (ts : List Tree) → Roots from roots ts
+pub ahead-start : {from : Store} {to roots : List ℕ} (ts : List Tree) → Roots from roots ts
     → Ahead from to roots 0 (length roots / 3) 0 (total ts)
-ahead-start from to roots ts r =
+ahead-start ts r =
     record {
       rest = ts;
       long = omega (arith, r .long);
@@ -289,9 +284,9 @@ ahead-start from to roots ts r =
       adds = omega arith;
     }
 
-pub ahead-done : (from : Store) (to roots : List ℕ) (i n used whole : ℕ) → n ≤ i → Ahead from to roots i n used whole
+pub ahead-done : {from : Store} {to roots : List ℕ} {i n used whole : ℕ} → n ≤ i → Ahead from to roots i n used whole
     → Waiting from to 0 used whole
-ahead-done from to roots i n used whole le a = go (a .rest) (a .long) (a .adds)
+ahead-done {from} {to} {roots} {i} {n} {used} {whole} le a = go (a .rest) (a .long) (a .adds)
   where
     go : (ts : List Tree) → i + length ts ≡ n → a .sum + total ts ≡ whole → Waiting from to 0 used whole
     go [] l e = let q : a .sum ≡ whole = omega arith in subst (Waiting from to 0 used) q (a .waiting)
@@ -308,9 +303,9 @@ pub record NextRoot (from : Store) (to roots : List ℕ) (i n used whole : ℕ) 
   pub waiting : Waiting from to 0 used sum
   pub adds : sum + cells tree + total rest ≡ whole
 
-pub next-root : (from : Store) (to roots : List ℕ) (i n used whole : ℕ) → i < n → Ahead from to roots i n used whole
+pub next-root : {from : Store} {to roots : List ℕ} {i n used whole : ℕ} → i < n → Ahead from to roots i n used whole
     → NextRoot from to roots i n used whole
-next-root from to roots i n used whole lt a = go (a .rest) (a .long) (a .stand) (a .adds)
+next-root {from} {to} {roots} {i} {n} {used} {whole} lt a = go (a .rest) (a .long) (a .stand) (a .adds)
   where
     go : (ts : List Tree) → i + length ts ≡ n → Slots from roots i ts → a .sum + total ts ≡ whole
         → NextRoot from to roots i n used whole
@@ -326,10 +321,10 @@ next-root from to roots i n used whole lt a = go (a .rest) (a .long) (a .stand) 
       adds = omega arith;
     }
 
-waiting-more : (from : Store) (to to′ : List ℕ) (used used′ sum : ℕ) (t : Tree)
+waiting-more : {from : Store} {to to′ : List ℕ} {used used′ sum : ℕ} {t : Tree}
     → Kept (storeOf to used) (storeOf to′ used′) → NewTrees from to′ used used′ t
     → Waiting from to 0 used sum → Waiting from to′ 0 used′ (sum + cells t)
-waiting-more from to to′ used used′ sum t g a q =
+waiting-more {from} {to} {to′} {used} g a q =
     let end : 2 * used ≡ 0 + length (q .trees) = omega (arith, q .long) in
     record {
       trees = q .trees ++ a .trees;
@@ -340,28 +335,27 @@ waiting-more from to to′ used used′ sum t g a q =
       adds = omega (arith, total-append (q .trees) (a .trees), a .adds, q .adds);
     }
 
-pub ahead-step : (from : Store) (to to′ roots : List ℕ) (i n used used′ whole : ℕ) → i < n
+pub ahead-step : {from : Store} {to to′ roots : List ℕ} {i n used used′ whole : ℕ} → i < n
     → Appended (from .words) to to′ used used′ (slotAt roots i)
     → Ahead from to roots i n used whole → Ahead from to′ roots (i + 1) n used′ whole
-ahead-step from to to′ roots i n used used′ whole lt c a =
-    let h = next-root from to roots i n used whole lt a in
+ahead-step lt c a =
+    let h = next-root lt a in
     record {
       rest = h .rest;
       long = h .long;
       stand = h .stand;
       sum = h .sum + cells (h .tree);
-      waiting = waiting-more from to to′ used used′ (h .sum) (h .tree) (c .kept)
-          (new-trees from to′ used used′ (slotAt roots i) (h .tree) (c .copied) (h .here)) (h .waiting);
+      waiting = waiting-more (c .kept) (new-trees (h .tree) (c .copied) (h .here)) (h .waiting);
       adds = h .adds;
     }
 
-pub roots-step : (from : Store) (to to′ roots : List ℕ) (i used used′ : ℕ) → used ≡ ownBelow roots i
+pub roots-step : (from : Store) {to to′ : List ℕ} (roots : List ℕ) (i : ℕ) {used used′ : ℕ} → used ≡ ownBelow roots i
     → Appended (from .words) to to′ used used′ (slotAt roots i)
     → ((k : ℕ) (t : Tree) (s′ : Slot) → k < i → Den from (slotAt roots k) t
     → Redirected (ownBelow roots k) (slotAt roots k) s′ → Mixed from to 0 used s′ t)
     → (k : ℕ) (t : Tree) (s′ : Slot) → k < i + 1 → Den from (slotAt roots k) t
     → Redirected (ownBelow roots k) (slotAt roots k) s′ → Mixed from to′ 0 used′ s′ t
-roots-step from to to′ roots i used used′ u c old k t s′ b d r =
+roots-step from {to} {to′} roots i {used} {used′} u c old k t s′ b d r =
     elim (below-or-at k i b) [
       | inl l ↦ mixed-kept from 0 s′ t (c .kept) (old k t s′ l d r)
       | inr e ↦ landed from to′ used used′ 0 (slotAt roots i) s′ t (c .copied)
@@ -370,11 +364,11 @@ roots-step from to to′ roots i used used′ u c old k t s′ b d r =
           (omega arith) (subst (λ x. Den from (slotAt roots x) t) e d)
     ]
 
-pub redirected-step : (roots words words′ : List ℕ) (i : ℕ) (s′ : Slot)
+pub redirected-step : (roots : List ℕ) {words words′ : List ℕ} (i : ℕ) {s′ : Slot}
     → Redirected (ownBelow roots i) (slotAt roots i) s′ → Wrote words words′ i s′
     → ((k : ℕ) → k < i → Redirected (ownBelow roots k) (slotAt roots k) (slotAt words k))
     → (k : ℕ) → k < i + 1 → Redirected (ownBelow roots k) (slotAt roots k) (slotAt words′ k)
-redirected-step roots words words′ i s′ r w old k b =
+redirected-step roots {words} {words′} i {s′} r w old k b =
     elim (below-or-at k i b) [
       | inl l ↦ subst (λ q. Redirected (ownBelow roots k) (slotAt roots k) q) (sym (w .other k (λ e. omega arith)))
           (old k l)

@@ -1,24 +1,23 @@
 -- The stack holds what is left to compare, so the answer is known when a pair differs or the stack is empty.
--- Each step that opens a pair looks at a cell of the first tree that was not looked at before, so neither the steps
--- nor the
+-- A step that opens a pair looks at a cell of the first tree that no other step looks at, so neither the steps nor the
 -- pairs that wait are more than its cells.
 use mathlib.Core.Path.{_≡_, refl, sym, ap, subst, _∙_}
-use mathlib.Core.Bool.{Bool, true, false, _&&_, and-true, and-assoc}
+use mathlib.Core.Bool.{true, false, _&&_, and-assoc}
 use mathlib.Core.List.{List, [], _∷_}
-use mathlib.Core.Logic.{_⊎_, inl, inr}
+use mathlib.Core.Logic.{inl, inr}
 use Prim.Native.Nat.{ℕ, _+_, _-_, _*_, _≤_, _<_}
 use native.Mathlib.Omega.{arith}
 use lib.ListN.{length}
 use lib.Dec.{eqb}
 use Rattle.std.proofs.shelf.Tests.{cases-bool, and-parts, and-left, eqb-true, eq-eqb, ne-eqb}
 use Rattle.store.specs.Compare.{Told, Pair, allSame, weight, Pairs, Comparing}
-use Rattle.store.specs.Heap.{Store, leftOf, rightOf, Den}
-use Rattle.store.specs.Slots.{slotAt, WroteCell}
+use Rattle.store.specs.Heap.{Store, leftOf, rightOf, BothOf, Den}
+use Rattle.store.specs.Slots.{slotAt, cellAt, WroteCell}
 use Rattle.store.specs.Tree.{Tree, leaf, node, cells, sameTree}
-use Rattle.store.specs.declared.comparer.Compared.the-variants.{Same, Differ, Parts}
+use Rattle.store.specs.declared.comparer.Compared.the-variants.{Differ, Parts}
 use Rattle.store.specs.declared.slot.Cell.{Cell}
 use Rattle.store.specs.declared.slot.Slot.{Slot}
-use Rattle.store.proofs.Laws.{leaf-is, leaf-kind, node-is, node-kind, node-left, node-right, one-tree, sameTree-refl}
+use Rattle.store.proofs.Laws.{den-at, leaf-is, leaf-kind, node-is, node-kind, node-left, node-right, one-tree, sameTree-refl}
 use Rattle.store.proofs.Words.{slot-parts}
 
 -- slots that are alike denote the same tree
@@ -66,22 +65,6 @@ pairs-same m w w′ (x ∷ ps) e p = (
   pairs-same m w w′ ps (λ i h. e i (omega arith)) (p .2),
 )
 
-pub comparing-start : {m : Store} (w : List ℕ) (a b : Slot) (budget : ℕ) (s t : Tree) → Den m a s → Den m b t
-    → Comparing m w a b 0 budget budget s t
-comparing-start w a b budget s t d d′ =
-    record {
-      one = s;
-      two = t;
-      rest = [];
-      here = d;
-      there = d′;
-      long = refl;
-      stand = tt;
-      same = sym (and-true (sameTree s t));
-      steps = omega arith;
-      room = omega arith;
-    }
-
 pub comparing-differs : {m : Store} {w : List ℕ} {x y : Slot} {depth budget left : ℕ} {s t : Tree} → Told x y Differ
     → Comparing m w x y depth budget left s t → false ≡ sameTree s t
 comparing-differs e k =
@@ -101,26 +84,27 @@ comparing-done {m} {w} {x} {y} {depth} {budget} {left} {s} {t} e z k = go (k .re
     go [] l q = sym q
     go (p ∷ ps) l q = absurd (omega arith)
 
-pub comparing-next : {m : Store} (w : List ℕ) {x y : Slot} (depth : ℕ) {budget left : ℕ} {s t : Tree} → x ≡ y
-    → 0 < depth → Comparing m w x y depth budget left s t
-    → Comparing m w (slotAt w (2 * (depth - 1))) (slotAt w (2 * (depth - 1) + 1)) (depth - 1) budget left s t
-comparing-next {m} w {x} {y} depth {budget} {left} {s} {t} e b k =
+-- .. and is compared next, from the last cell of the stack
+pub comparing-next : {m : Store} {w : List ℕ} {x y : Slot} {depth budget left : ℕ} {s t : Tree} {p : Cell} → x ≡ y
+    → 0 < depth → p ≡ cellAt w (depth - 1) → Comparing m w x y depth budget left s t
+    → Comparing m w (p .left) (p .right) (depth - 1) budget left s t
+comparing-next {m} {w} {x} {y} {depth} {budget} {left} {s} {t} {p} e b c k =
     go (k .rest) (k .long) (k .stand) (rest-decides e k) (k .steps) (k .room)
   where
     go : (ps : List Pair) → depth ≡ length ps → Pairs m w ps → sameTree s t ≡ allSame ps
         → budget + (cells (k .one) + weight ps) ≤ left + cells s → depth + (cells (k .one) + weight ps) ≤ cells s
-        → Comparing m w (slotAt w (2 * (depth - 1))) (slotAt w (2 * (depth - 1) + 1)) (depth - 1) budget left s t
-    go [] l p q u v = absurd (omega arith)
-    go (r ∷ ps) l p q u v =
-        let z : length ps ≡ depth - 1 = omega arith in
+        → Comparing m w (p .left) (p .right) (depth - 1) budget left s t
+    go [] l h q u v = absurd (omega arith)
+    go (r ∷ ps) l h q u v =
+        let z : depth - 1 ≡ length ps = omega arith in
         record {
           one = r .one;
           two = r .two;
           rest = ps;
-          here = subst (λ n. Den m (slotAt w (2 * n)) (r .one)) z (p .0);
-          there = subst (λ n. Den m (slotAt w (2 * n + 1)) (r .two)) z (p .1);
+          here = den-at (ap (λ (x : Cell). x .left) c ∙ ap (λ n. slotAt w (2 * n)) z) (h .0);
+          there = den-at (ap (λ (x : Cell). x .right) c ∙ ap (λ n. slotAt w (2 * n + 1)) z) (h .1);
           long = omega arith;
-          stand = p .2;
+          stand = h .2;
           same = q;
           steps = omega arith;
           room = omega arith;
@@ -138,14 +122,10 @@ record Opened (m : Store) (p q : Cell) (depth budget left : ℕ) (rest : List Pa
   steps : budget + (1 + cells (lefts .one) + cells (rights .one) + weight rest) ≤ left + cells s
   room : depth + (1 + cells (lefts .one) + cells (rights .one) + weight rest) ≤ cells s
 
--- a cell with both slots of a node
-abbrev BothOf : List ℕ → Slot → Cell → Type 0
-BothOf words x p = (p .left ≡ leftOf words x) × (p .right ≡ rightOf words x)
-
-opened : {m : Store} {w : List ℕ} {x y : Slot} {depth budget left : ℕ} {s t : Tree} (p q : Cell) → Told x y Parts
+opened : {m : Store} {w : List ℕ} {x y : Slot} {depth budget left : ℕ} {s t : Tree} {p q : Cell} → Told x y Parts
     → BothOf (m .words) x p → BothOf (m .words) y q
     → (k : Comparing m w x y depth budget left s t) → Opened m p q depth budget left (k .rest) s t
-opened {m} {w} {x} {y} {depth} {budget} {left} {s} {t} p q e bp bq k =
+opened {m} {w} {x} {y} {depth} {budget} {left} {s} {t} {p} {q} e bp bq k =
     go (k .one) (k .two) (k .here) (k .there) (k .same) (k .steps) (k .room)
   where
     go : (one two : Tree) → Den m x one → Den m y two → sameTree s t ≡ (sameTree one two && allSame (k .rest))
@@ -159,10 +139,10 @@ opened {m} {w} {x} {y} {depth} {budget} {left} {s} {t} p q e bp bq k =
         record {
           lefts = record { one = a₁; two = b₁ };
           rights = record { one = a₂; two = b₂ };
-          left-one = subst (λ (g : Slot). Den m g a₁) (sym (bp .0)) (node-left d);
-          left-two = subst (λ (g : Slot). Den m g b₁) (sym (bq .0)) (node-left d′);
-          right-one = subst (λ (g : Slot). Den m g a₂) (sym (bp .1)) (node-right d);
-          right-two = subst (λ (g : Slot). Den m g b₂) (sym (bq .1)) (node-right d′);
+          left-one = subst (λ (g : Slot). Den m g a₁) (sym (bp .left)) (node-left d);
+          left-two = subst (λ (g : Slot). Den m g b₁) (sym (bq .left)) (node-left d′);
+          right-one = subst (λ (g : Slot). Den m g a₂) (sym (bp .right)) (node-right d);
+          right-two = subst (λ (g : Slot). Den m g b₂) (sym (bq .right)) (node-right d′);
           same = z ∙ (ap (λ g. (g && (sameTree a₁ b₁ && sameTree a₂ b₂)) && allSame (k .rest)) kinds ∙ and-assoc
               (sameTree a₁ b₁) (sameTree a₂ b₂) (allSame (k .rest)));
           steps = omega arith;
@@ -170,14 +150,12 @@ opened {m} {w} {x} {y} {depth} {budget} {left} {s} {t} p q e bp bq k =
         }
 
 -- the left slots are compared next, and the right ones wait
-pub comparing-lefts : {m : Store} (w w′ : List ℕ) {x y : Slot} (depth : ℕ) {budget left : ℕ} {s t : Tree} (p q : Cell)
-    → Told x y Parts → 0 < left
-    → p .left ≡ leftOf (m .words) x → p .right ≡ rightOf (m .words) x → q .left ≡ leftOf (m .words) y
-    → q .right ≡ rightOf (m .words) y
+pub comparing-lefts : {m : Store} {w w′ : List ℕ} {x y : Slot} {depth budget left : ℕ} {s t : Tree} {p q : Cell}
+    → Told x y Parts → 0 < left → BothOf (m .words) x p → BothOf (m .words) y q
     → WroteCell w w′ depth (record { left = p .right; right = q .right }) → Comparing m w x y depth budget left s t
     → Comparing m w′ (p .left) (q .left) (depth + 1) budget (left - 1) s t
-comparing-lefts {m} w w′ depth p q e b pl pr ql qr r k =
-    let o = opened p q e (pl, pr) (ql, qr) k in
+comparing-lefts {m} {w} {w′} {x} {y} {depth} e b bp bq r k =
+    let o = opened e bp bq k in
     record {
       one = o .lefts .one;
       two = o .lefts .two;
@@ -199,14 +177,11 @@ comparing-lefts {m} w w′ depth p q e b pl pr ql qr r k =
     }
 
 -- the left slots are alike: the right ones are compared next
-pub comparing-rights : {m : Store} {w : List ℕ} {x y : Slot} {depth budget left : ℕ} {s t : Tree} (p q : Cell)
-    → Told x y Parts → 0 < left
-    → p .left ≡ leftOf (m .words) x → p .right ≡ rightOf (m .words) x → q .left ≡ leftOf (m .words) y
-    → q .right ≡ rightOf (m .words) y
-    → p .left ≡ q .left → Comparing m w x y depth budget left s t
-    → Comparing m w (p .right) (q .right) depth budget (left - 1) s t
-comparing-rights p q e b pl pr ql qr alike k =
-    let o = opened p q e (pl, pr) (ql, qr) k in
+pub comparing-rights : {m : Store} {w : List ℕ} {x y : Slot} {depth budget left : ℕ} {s t : Tree} {p q : Cell}
+    → Told x y Parts → 0 < left → BothOf (m .words) x p → BothOf (m .words) y q → p .left ≡ q .left
+    → Comparing m w x y depth budget left s t → Comparing m w (p .right) (q .right) depth budget (left - 1) s t
+comparing-rights e b bp bq alike k =
+    let o = opened e bp bq k in
     record {
       one = o .rights .one;
       two = o .rights .two;
@@ -224,12 +199,11 @@ comparing-rights p q e b pl pr ql qr alike k =
 
 -- a pair that is opened is a cell more of the first tree
 pub comparing-short : {m : Store} {w : List ℕ} {x y : Slot} {depth budget left : ℕ} {s t : Tree} → Told x y Parts
-    → Comparing m w x y depth budget left s t
-    → (depth < cells s) × (budget < left + cells s)
+    → Comparing m w x y depth budget left s t → (depth < cells s) × (budget < left + cells s)
 comparing-short {m} {w} {x} {y} e k =
     let p : Cell = record { left = leftOf (m .words) x; right = rightOf (m .words) x } in
     let q : Cell = record { left = leftOf (m .words) y; right = rightOf (m .words) y } in
-    let o = opened p q e (refl, refl) (refl, refl) k in
+    let o = opened {p = p} {q = q} e (record { left = refl; right = refl }) (record { left = refl; right = refl }) k in
     (omega (arith, o .room), omega (arith, o .steps))
 
 -- slots that are alike don't differ

@@ -1,12 +1,11 @@
--- What a slot denotes: it stays denoted while the cells in use stay, a new cell is denoted, and no slot denotes two
--- trees.
--- Each is an induction on the tree, since a node's slots lie among the cells in use.
+-- What a slot denotes stays denoted while the cells in use stay, a new cell is denoted, and no slot denotes two trees.
+-- Each is an induction on the tree: a node's slots lie among the cells in use.
 use mathlib.Core.Path.{_≡_, refl, sym, ap, subst, _∙_}
 use mathlib.Core.List.{List}
-use Prim.Native.Nat.{ℕ, _+_, _*_, _≤_, _<_}
+use Prim.Native.Nat.{ℕ, _+_, _*_, _≤_}
 use native.Mathlib.Omega.{arith}
 use lib.ListN.{length}
-use Rattle.store.specs.Heap.{Store, Denotes, Den, Kept, Put}
+use Rattle.store.specs.Heap.{Store, Denotes, Kept, Put}
 use Rattle.store.specs.Slots.{slotAt, placeOf, WroteCell}
 use Rattle.store.specs.Tree.{Tree, leaf, node}
 use Rattle.store.specs.declared.slot.Cell.{Cell}

@@ -1,21 +1,21 @@
 -- The laws of the store: all that other crates use of it, in the order in which a reader needs them.
--- A slot of a store denotes a tree (`Den`). Reading goes down the tree, making a cell puts two trees together, and
--- nothing that
--- was denoted is lost; places never show.
+-- A slot of a store denotes a tree (`Den`). To read goes down the tree, to make a cell puts two trees together (`Put`),
+-- and nothing that was denoted is lost (`Kept`); places and words never show.
 use mathlib.Core.Path.{_≡_, refl, sym, ap, subst, _∙_}
 use mathlib.Core.Bool.{true}
 use mathlib.Core.List.{List, _++_}
 use Prim.Native.Nat.{ℕ, _+_, _*_, _≤_, _<_}
 use native.Mathlib.Omega.{arith}
 use lib.ListN.{length, take}
-use borrow.Author.Tests.{eq-eqb}
-use Rattle.store.specs.Heap.{Store, leftOf, rightOf, Denotes, Den, Kept}
-use Rattle.store.specs.Slots.{slotAt, placeOf}
+use Rattle.std.proofs.shelf.Lists.{getD-append-left, getD-take}
+use Rattle.std.proofs.shelf.Tests.{eq-eqb}
+use Rattle.store.specs.Heap.{Store, leftOf, rightOf, Den, Kept}
+use Rattle.store.specs.Slots.{slotAt}
 use Rattle.store.specs.Tree.{Tree, leaf, node, spine, sameTree}
 use Rattle.store.specs.declared.slot.Slot.{Slot}
 use Rattle.store.proofs.Denoting.{denotes-kept, denotes-one}
 use Rattle.store.proofs.Spines.{denotes-spine}
-use Rattle.store.proofs.Words.{slot-append, slot-parts, slot-take}
+use Rattle.store.proofs.Words.{slot-parts, slot-same}
 
 -- A slot of a kind below 16 denotes the leaf of its own words, in every store.
 pub leaf-stands : {m : Store} (k l h : ℕ) → k < 16 → Den m (record { kind = k; low = l; high = h }) (leaf k l h)
@@ -66,6 +66,10 @@ is-node (leaf k l h) b d = absurd (omega (arith, d .is .0))
 is-node {m} {s} (node k x y) b d =
     record { one = x; two = y; is = ap (λ i. node i x y) (sym (d .is .1)); left = node-left d; right = node-right d }
 
+-- What is read is denoted: a slot that equals one that denotes a tree denotes it.
+pub den-at : {m : Store} {s q : Slot} {t : Tree} → s ≡ q → Den m q t → Den m s t
+den-at {m} {s} {q} {t} e d = subst (λ x. Den m x t) (sym e) d
+
 -- A slot denotes at most one tree.
 pub one-tree : {m : Store} {s : Slot} {t u : Tree} → Den m s t → Den m s u → t ≡ u
 one-tree {m} {s} {t} {u} d e = denotes-one (m .words) (m .used) s t u (d .is) (e .is)
@@ -99,10 +103,15 @@ sameTree-refl (leaf k l h) = rw (eq-eqb k k refl, eq-eqb l l refl, eq-eqb h h re
 sameTree-refl (node k a b) = rw (eq-eqb k k refl, sameTree-refl a, sameTree-refl b) refl
 
 -- A slot of a part of some words that begins where they do is theirs, ..
-pub slot-of-front : (n : ℕ) (words : List ℕ) (j : ℕ) → 3 * j + 3 ≤ n → slotAt (take n words) j ≡ slotAt words j
-slot-of-front = slot-take
+pub slot-take : (n : ℕ) (words : List ℕ) (j : ℕ) → 3 * j + 3 ≤ n → slotAt (take n words) j ≡ slotAt words j
+slot-take n words j h =
+    slot-same words (take n words) j
+    (getD-take n words (3 * j) 0 (omega arith)) (getD-take n words (3 * j + 1) 0 (omega arith))
+    (getD-take n words (3 * j + 2) 0 (omega arith))
 
 -- .. and so is one of words that others follow.
-pub slot-of-longer : (words more : List ℕ) (j : ℕ) → 3 * j + 3 ≤ length words
-    → slotAt (words ++ more) j ≡ slotAt words j
-slot-of-longer = slot-append
+pub slot-append : (words more : List ℕ) (j : ℕ) → 3 * j + 3 ≤ length words → slotAt (words ++ more) j ≡ slotAt words j
+slot-append words more j h =
+    slot-same words (words ++ more) j
+    (getD-append-left words more 0 (3 * j) (omega arith)) (getD-append-left words more 0 (3 * j + 1) (omega arith))
+    (getD-append-left words more 0 (3 * j + 2) (omega arith))

@@ -1,8 +1,7 @@
 -- A right edge is at most as long as the cells in use.
--- The cells on it are all different, since a cell denotes one tree, and the trees on the edge differ in length; so
--- there are no
--- more of them than numbers below `used`.
-use mathlib.Core.Path.{_≡_, refl, sym, ap, subst, _∙_}
+-- The cells on it are all different, since a cell denotes one tree and the trees on the edge differ in length; so there
+-- are no more of them than numbers below `used`.
+use mathlib.Core.Path.{_≡_, sym, ap, subst, _∙_}
 use mathlib.Core.Bool.{cond}
 use mathlib.Core.List.{List}
 use mathlib.Core.Logic.{_⊎_, inl, inr}

@@ -1,13 +1,12 @@
 -- Slots as words: the only proofs that open a slot.
 -- A slot is as its three words are, so a write of three words changes that slot and no other.
-use mathlib.Core.Path.{_≡_, sym, ap, _∙_}
-use mathlib.Core.List.{List, _++_}
-use Prim.Native.Nat.{ℕ, _+_, _*_, _≤_, _<_}
+use mathlib.Core.Path.{_≡_, _∙_}
+use mathlib.Core.List.{List}
+use Prim.Native.Nat.{ℕ, _+_, _*_, _≤_}
 use native.Mathlib.Omega.{arith}
-use lib.ListN.{getD, set, take, length}
-use Rattle.std.proofs.shelf.Lists.{places, getD-append-left, getD-past, getD-set-other, getD-set-same, getD-take, length-set}
-use Rattle.store.specs.Slots.{slotAt, cellAt, Wrote, WroteCell}
-use Rattle.store.specs.declared.slot.Cell.{Cell}
+use lib.ListN.{getD, set, length}
+use Rattle.std.proofs.shelf.Lists.{places, getD-past, getD-set-other, getD-set-same, length-set}
+use Rattle.store.specs.Slots.{slotAt, cellAt, Wrote}
 use Rattle.store.specs.declared.slot.Slot.{Slot}
 
 parts : (a b c d e f : ℕ) → a ≡ d → b ≡ e → c ≡ f
@@ -22,7 +21,7 @@ pub slot-is : (words : List ℕ) (j : ℕ) (s : Slot) → getD words (3 * j) 0 �
 unfolding slotAt
 slot-is words j s p q r = slot-parts {s = slotAt words j} {t = s} p q r
 
-slot-same : (words words′ : List ℕ) (j : ℕ) → getD words′ (3 * j) 0 ≡ getD words (3 * j) 0
+pub slot-same : (words words′ : List ℕ) (j : ℕ) → getD words′ (3 * j) 0 ≡ getD words (3 * j) 0
     → getD words′ (3 * j + 1) 0 ≡ getD words (3 * j + 1) 0 → getD words′ (3 * j + 2) 0 ≡ getD words (3 * j + 2) 0
     → slotAt words′ j ≡ slotAt words j
 unfolding slotAt
@@ -34,18 +33,6 @@ slot-past words j h =
     slot-is words j (record { kind = 0; low = 0; high = 0 })
     (getD-past words (3 * j) 0 h) (getD-past words (3 * j + 1) 0 (omega arith))
     (getD-past words (3 * j + 2) 0 (omega arith))
-
-pub slot-take : (n : ℕ) (words : List ℕ) (j : ℕ) → 3 * j + 3 ≤ n → slotAt (take n words) j ≡ slotAt words j
-slot-take n words j h =
-    slot-same words (take n words) j
-    (getD-take n words (3 * j) 0 (omega arith)) (getD-take n words (3 * j + 1) 0 (omega arith))
-    (getD-take n words (3 * j + 2) 0 (omega arith))
-
-pub slot-append : (words more : List ℕ) (j : ℕ) → 3 * j + 3 ≤ length words → slotAt (words ++ more) j ≡ slotAt words j
-slot-append words more j h =
-    slot-same words (words ++ more) j
-    (getD-append-left words more 0 (3 * j) (omega arith)) (getD-append-left words more 0 (3 * j + 1) (omega arith))
-    (getD-append-left words more 0 (3 * j + 2) (omega arith))
 
 -- the three words of slot j written
 written : List ℕ → ℕ → Slot → List ℕ
@@ -71,15 +58,6 @@ wrote words j s h =
           (written-other words j s (3 * i) (λ e. n (omega arith)) (λ e. omega arith) (λ e. omega arith))
           (written-other words j s (3 * i + 1) (λ e. omega arith) (λ e. n (omega arith)) (λ e. omega arith))
           (written-other words j s (3 * i + 2) (λ e. omega arith) (λ e. omega arith) (λ e. n (omega arith)));
-    }
-
-pub wrote-cell : {words words₁ words₂ : List ℕ} (c : ℕ) {x : Cell} → Wrote words words₁ (2 * c) (x .left)
-    → Wrote words₁ words₂ (2 * c + 1) (x .right) → WroteCell words words₂ c x
-wrote-cell c v w =
-    record {
-      left = w .other (2 * c) (λ e. omega arith) ∙ v .here;
-      right = w .here;
-      other = λ i n n′. w .other i n′ ∙ v .other i n;
     }
 
 pub cell-past : (words : List ℕ) (c : ℕ) → length words ≤ 6 * c

@@ -54,8 +54,7 @@ pub record Appended (from to to′ : List ℕ) (used used′ : ℕ) (s : Slot) :
   pub kept : Kept (storeOf to used) (storeOf to′ used′)
   pub fits : 6 * used′ ≤ length to′
 
--- what a slot denotes in a store that is half copied: slots below `scan` refer to `to` itself, the others still to
--- `from`
+-- what a slot denotes in a half copied store: the slots of `to` below `scan` refer to `to`, the others still to `from`
 abbrev pub Mixed : Store → List ℕ → ℕ → ℕ → Slot → Tree → Type 0
 Mixed from to scan used s (leaf k l h) = (s .kind < 16) × (s .kind ≡ k) × (s .low ≡ l) × (s .high ≡ h)
 Mixed from to scan used s (node k a b) =

@@ -1,5 +1,4 @@
--- Whether two slots denote the same tree, and how a comparison stands: one pair at hand, and a stack of pairs that
--- wait.
+-- Whether two slots denote the same tree, and how a comparison stands: a pair at hand, and a stack of pairs that wait.
 use mathlib.Core.Bool.{Bool, true, _&&_}
 use mathlib.Core.List.{List, [], _∷_}
 use mathlib.Core.Logic.{_⊎_}

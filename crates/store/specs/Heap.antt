@@ -7,6 +7,7 @@ use lib.ListN.{length}
 use Rattle.store.specs.Slots.{slotAt, placeOf}
 use Rattle.store.specs.Tree.{Tree, leaf, node}
 use Rattle.store.specs.declared.heap.Heap.{Heap}
+use Rattle.store.specs.declared.slot.Cell.{Cell}
 use Rattle.store.specs.declared.slot.Slot.{Slot}
 
 -- words, and how many cells of them are in use
@@ -26,6 +27,11 @@ leftOf words s = slotAt words (2 * placeOf s)
 
 unfoldable pub rightOf : List ℕ → Slot → Slot
 rightOf words s = slotAt words (2 * placeOf s + 1)
+
+-- x has both of them
+pub record BothOf (words : List ℕ) (s : Slot) (x : Cell) : Type 0 where
+  pub left : x .left ≡ leftOf words s
+  pub right : x .right ≡ rightOf words s
 
 -- a kind below 16 is a leaf's; a node's slot refers to a cell in use, whose slots denote its trees
 abbrev pub Denotes : List ℕ → ℕ → Slot → Tree → Type 0

@@ -2,8 +2,8 @@
 -- Words past the end read as 0, so that every read has an answer.
 use mathlib.Core.Path.{_≡_}
 use mathlib.Core.List.{List}
-use Prim.Native.Nat.{ℕ, _+_, _*_, _≤_, _<_}
-use lib.ListN.{getD, length}
+use Prim.Native.Nat.{ℕ, _+_, _*_}
+use lib.ListN.{getD}
 use Rattle.store.specs.declared.slot.Cell.{Cell}
 use Rattle.store.specs.declared.slot.Slot.{Slot}
 

@@ -6,7 +6,7 @@ ghost use lib.ListN.{length};
 ghost use Rattle.std.specs.Results.{Cases};
 ghost use Rattle.std.specs.declared.result.Result.the-variants.{Ok};
 ghost use Rattle.store.specs.Compare.{Answers, TooLarge};
-ghost use Rattle.store.specs.Heap.{leftOf, rightOf, stored, Lacks, Put};
+ghost use Rattle.store.specs.Heap.{leftOf, rightOf, stored, BothOf, Lacks, Put};
 use crate::comparer::equal;
 use crate::slot::Cell;
 use crate::slot::Full;
@@ -58,8 +58,7 @@ impl Heap<'_> {
 
     /// Both slots of the cell that `node` refers to, by one test.
     pub fn both(&self, node: Slot) -> Cell
-        ensures left { λ r. ⌜ r .left ≡ leftOf (now (self .entry) .words .now) node ⌝ }
-        ensures right { λ r. ⌜ r .right ≡ rightOf (now (self .entry) .words .now) node ⌝ }
+        ensures { λ r. ⌜ BothOf (now (self .entry) .words .now) node r ⌝ }
     {
         both(self.words, node)
     }

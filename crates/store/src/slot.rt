@@ -4,7 +4,7 @@ ghost use mathlib.Core.Path.{_≡_};
 ghost use Prim.Native.Nat.{ℕ, _+_, _*_, _<_, _≤_};
 ghost use lib.ListN.{getD, length};
 ghost use Rattle.std.specs.Results.{Cases};
-ghost use Rattle.store.specs.Heap.{leftOf, rightOf};
+ghost use Rattle.store.specs.Heap.{leftOf, rightOf, BothOf};
 ghost use Rattle.store.specs.Slots.{cellAt, placeOf, slotAt, Wrote, WroteCell};
 
 /// The first kind of a node; the kinds below are those of leaves.
@@ -148,8 +148,7 @@ pub fn right(words: &[u32], node: Slot) -> Slot
 
 /// Both slots of the cell that `node` refers to.
 pub fn both(words: &[u32], node: Slot) -> Cell
-    ensures left { λ r. ⌜ r .left ≡ leftOf (now (words .entry)) node ⌝ }
-    ensures right { λ r. ⌜ r .right ≡ rightOf (now (words .entry)) node ⌝ }
+    ensures { λ r. ⌜ BothOf (now (words .entry)) node r ⌝ }
 {
     read_cell(words, node.place())
 }

@@ -1,7 +1,7 @@
 use mathlib.Core.Path.{ap, _∙_}
 use Prim.Native.Nat.{_+_, _*_}
 use Rattle.store.specs.Heap.{leftOf, rightOf}
-use Rattle.store.specs.Slots.{slotAt, cellAt}
+use Rattle.store.specs.Slots.{slotAt}
 use Rattle.store.specs.declared.slot.Cell.{Cell}
 use Rattle.store.proofs.slot.both.Needs as need
 
