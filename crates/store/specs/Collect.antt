@@ -85,6 +85,10 @@ pub record Scanned (from to to′ : List ℕ) (start used : ℕ) : Type 0 where
   pub stands : (top : ℕ) (s : Slot) (t : Tree) → Mixed (storeOf from top) to 0 start s t → Den (storeOf to′ used) s t
   pub count : (top sum : ℕ) → Waiting (storeOf from top) to 0 start sum → used ≡ sum
 
+-- the cells of all that waits do not fit
+pub record ScanOverfull (from to : List ℕ) (start : ℕ) : Type 0 where
+  pub short : {top sum : ℕ} → Waiting (storeOf from top) to 0 start sum → length to < 6 * sum
+
 -- each root refers to where its cell was copied
 pub record RootsRedirected (roots roots′ : List ℕ) : Type 0 where
   pub moved : (i : ℕ) → i < length roots / 3 → Redirected (ownBelow roots i) (slotAt roots i) (slotAt roots′ i)

@@ -1,13 +1,11 @@
 //! The collector: copies what the root slots denote into other memory, a cell for each reference to it.
 
-ghost use mathlib.Core.List.{List};
 ghost use mathlib.Core.Path.{_≡_};
 ghost use Prim.Native.Nat.{ℕ, _+_, _*_, _≤_, _<_};
 ghost use lib.ListN.{length};
 ghost use Rattle.std.specs.Results.{Cases};
-ghost use Rattle.store.specs.Collect.{own, Appended, Collected, Overfull, Redirected, Roots, RootsCopied, RootsRedirected, Scanned, Waiting};
-ghost use Rattle.store.specs.Heap.{storeOf};
-ghost use Rattle.store.specs.Tree.{Tree, total};
+ghost use Rattle.store.specs.Collect.{own, Appended, Collected, Overfull, Redirected};
+ghost use Rattle.store.specs.Collect.{RootsCopied, RootsRedirected, ScanOverfull, Scanned};
 use crate::slot::FIRST_NODE;
 use crate::slot::Full;
 use crate::slot::Place;
@@ -17,8 +15,8 @@ use crate::slot::load_slot;
 use crate::slot::set_slot;
 use crate::slot::write_cell;
 
-/// Copies what the root slots denote from `from` to `to`, lets the roots refer to the copies, and gives the number of cells
-/// then in use; refuses where these do not fit, and then leaves the roots as they were.
+/// Copies what the root slots denote from `from` to `to`, lets the roots refer to the copies, and gives the number of
+/// cells then in use; refuses where these do not fit, and then leaves the roots as they were.
 pub fn collect(from: &[u32], to: &mut [u32], roots: &mut [u32]) -> Result<usize, Full>
     ensures { λ r. ⌜ Cases r
         (λ used. Collected (now (from .entry)) (now (to .exit)) (now (roots .entry)) (now (roots .exit)) used)
@@ -40,7 +38,7 @@ pub fn collect(from: &[u32], to: &mut [u32], roots: &mut [u32]) -> Result<usize,
 fn copy_roots(from: &[u32], to: &mut [u32], roots: &[u32]) -> Result<usize, Full>
     ensures { λ r. ⌜ Cases r
         (λ used. RootsCopied (now (from .entry)) (now (to .exit)) (now (roots .entry)) used)
-        (λ _. (top : ℕ) (ts : List Tree) → Roots (storeOf (now (from .entry)) top) (now (roots .entry)) ts → length (now (to .entry)) < 6 * total ts) ⌝ }
+        (λ _. Overfull (now (from .entry)) (now (to .entry)) (now (roots .entry)) (now (roots .entry))) ⌝ }
 {
     let mut used: usize = 0;
     for i in 0..roots.len() / 3 {
@@ -58,7 +56,7 @@ fn scan(from: &[u32], to: &mut [u32], start: usize) -> Result<usize, Full>
     requires { ⌜ 6 * start ≤ length (now to) ⌝ }
     ensures { λ r. ⌜ Cases r
         (λ used. Scanned (now (from .entry)) (now (to .entry)) (now (to .exit)) start used)
-        (λ _. (top sum : ℕ) → Waiting (storeOf (now (from .entry)) top) (now (to .entry)) 0 start sum → length (now (to .entry)) < 6 * sum) ⌝ }
+        (λ _. ScanOverfull (now (from .entry)) (now (to .entry)) start) ⌝ }
 {
     let mut used = start;
     let mut j: usize = 0;
@@ -87,7 +85,7 @@ fn redirect_roots(roots: &mut [u32])
     }
 }
 
-/// Copies the cell that `slot` refers to in `from`, if any, to the end of `to`, and gives the number of cells then in use.
+/// Copies the cell that `slot` refers to in `from`, if any, to the end of `to`; gives the number of cells then in use.
 fn copy_cell(from: &[u32], to: &mut [u32], used: usize, slot: Slot) -> Result<usize, Full>
     requires { ⌜ 6 * used ≤ length (now to) ⌝ }
     ensures { λ r. ⌜ Cases r

@@ -23,7 +23,7 @@ pub enum Compared {
     Parts,
 }
 
-/// Whether `a` and `b` denote the same tree; refuses only where the first has more cells than `scratch`, or than `budget`.
+/// Whether `a` and `b` denote the same tree; refuses only where the first has more cells than `scratch` or `budget`.
 ///
 /// At most `budget` cells are looked at, and none where two slots are alike.
 pub fn equal(

@@ -9,10 +9,13 @@ pub loop-i-holds : need.loop-i-holds
 loop-i-holds c = (omega arith, refl, (λ top k t s′ b d r. absurd (omega arith)), (λ top ts r. ahead-start ts r))
 
 pub returns-in-Err : need.returns-in-Err
-returns-in-Err c = λ top ts r.
-    let n = next-root (c .loop-i-test .taken) (c .loop-i .inv .3 top ts r) in
-    let one = takes-cell (n .tree) (c .in-Err .ensures tt .0) (den-at (c .load-slot-root .ensures) (n .here)) in
-    omega (arith, n .adds, n .waiting .adds, one, c .in-Err .ensures tt .1, c .loop-i .kept .to)
+returns-in-Err c = record {
+  same = refl;
+  short = λ {top} ts r.
+      let n = next-root (c .loop-i-test .taken) (c .loop-i .inv .3 top ts r) in
+      let one = takes-cell (n .tree) (c .in-Err .ensures tt .0) (den-at (c .load-slot-root .ensures) (n .here)) in
+      omega (arith, n .adds, n .waiting .adds, one, c .in-Err .ensures tt .1, c .loop-i .kept .to);
+}
 
 pub loop-i-again : need.loop-i-again
 loop-i-again c =

@@ -5,10 +5,12 @@ use Rattle.store.proofs.Laws.{den-at}
 use Rattle.store.proofs.collector.scan.Needs as need
 
 pub returns-in-Err : need.returns-in-Err
-returns-in-Err c = λ top sum q.
-    let n = next (c .loop-j-test .taken) (c .loop-j .inv .2 top sum q) in
-    let one = takes-cell (n .tree) (c .in-Err .ensures tt .0) (den-at (c .load-slot-slot .ensures) (n .here)) in
-    omega (arith, n .adds, one, c .in-Err .ensures tt .1, c .loop-j .kept .to)
+returns-in-Err c = record {
+  short = λ {top} {sum} q.
+      let n = next (c .loop-j-test .taken) (c .loop-j .inv .2 top sum q) in
+      let one = takes-cell (n .tree) (c .in-Err .ensures tt .0) (den-at (c .load-slot-slot .ensures) (n .here)) in
+      omega (arith, n .adds, one, c .in-Err .ensures tt .1, c .loop-j .kept .to);
+}
 
 pub loop-j-again : need.loop-j-again
 loop-j-again c =
