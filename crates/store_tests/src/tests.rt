@@ -1,5 +1,8 @@
 //! The tests; a list of n elements is n nodes along a right edge, which ends in a leaf.
 
+use crate::PAIR;
+use crate::spine_of;
+use crate::triple;
 use std::test::*;
 use store::Full;
 use store::FullDebug;
@@ -11,8 +14,6 @@ use store::SlotPartialEq;
 use store::collect;
 use store::read_slot;
 use store::write_slot;
-
-const PAIR: u32 = 16;
 
 fn number(n: u32) -> Slot {
     Slot {
@@ -84,6 +85,7 @@ fn a_list_is_collected(rt: LibcRuntime) -> Result<(), Fail> {
         words: &mut other,
         used: 100_000,
     };
+    check_eq(spine_of(&heap, copy), 100_000)?;
     let again = list(&mut heap, 100_000, number(1))?;
     check_eq(heap.equal(copy, again, &mut [0; 6], 100_000), Ok(true))
 }
@@ -118,11 +120,10 @@ fn the_last_cell_fits() -> Result<(), Fail> {
         words: &mut two,
         used: 0,
     };
-    let first = heap.put(PAIR, number(1), number(2))?;
-    let second = heap.put(PAIR, number(3), first)?;
-    check_eq(heap.put(PAIR, number(4), second), Err(Full))?;
+    let all = triple(&mut heap, number(1), number(2), number(3))?;
+    check_eq(heap.put(PAIR, number(4), all), Err(Full))?;
     check_eq(heap.used, 2)?;
-    check_eq(heap.left(heap.right(second)), number(1))
+    check_eq(heap.left(heap.right(all)), number(2))
 }
 
 #[test]
