@@ -18,6 +18,7 @@ use Rattle.store.specs.Tree.{Tree, leaf, node, cells, total}
 use Rattle.store.specs.declared.slot.Cell.{Cell}
 use Rattle.store.specs.declared.slot.Slot.{Slot}
 use Rattle.store.proofs.Denoting.{kept-cell}
+use Rattle.store.proofs.Laws.{slots-append, slots-same}
 
 -- one slot and its cell
 
@@ -153,27 +154,9 @@ module _ (from : Store) {to to₁ to′ : List ℕ} {used used′ scan : ℕ} {s
     slot-step (2 * placeOf s + 1) b (omega arith) (λ q m. mixed-step q b m) (d .4),
   )
 
--- slots in a row
-
 total-append : (ts us : List Tree) → total (ts ++ us) ≡ total ts + total us
 total-append [] us = omega arith
 total-append (t ∷ ts) us = omega (arith, total-append ts us)
-
-slots-same : (m : Store) (words words′ : List ℕ) (j : ℕ) (ts : List Tree)
-    → ((i : ℕ) → j ≤ i → i < j + length ts → slotAt words′ i ≡ slotAt words i)
-    → Slots m words j ts → Slots m words′ j ts
-slots-same m words words′ j [] e d = tt
-slots-same m words words′ j (t ∷ ts) e d = (
-  subst (λ q. Den m q t) (sym (e j (omega arith) (omega arith))) (d .0),
-  slots-same m words words′ (j + 1) ts (λ i p q. e i (omega arith) (omega arith)) (d .1),
-)
-
-slots-append : (m : Store) (words : List ℕ) (j : ℕ) (ts us : List Tree) → Slots m words j ts
-    → Slots m words (j + length ts) us → Slots m words j (ts ++ us)
-slots-append m words j [] us d e = let q : j + 0 ≡ j = omega arith in subst (λ k. Slots m words k us) q e
-slots-append m words j (t ∷ ts) us d e =
-    let q : j + length (t ∷ ts) ≡ j + 1 + length ts = omega arith in
-    (d .0, slots-append m words (j + 1) ts us (d .1) (subst (λ k. Slots m words k us) q e))
 
 -- what waits
 

@@ -9,7 +9,7 @@ use Prim.Native.Nat.{ℕ, _+_, _-_, _*_, _≤_, _<_}
 use native.Mathlib.Omega.{arith}
 use lib.ListN.{length}
 use lib.Dec.{eqb}
-use Rattle.std.proofs.shelf.Tests.{cases-bool, and-parts, and-left, eqb-true, eq-eqb, ne-eqb}
+use Rattle.std.proofs.shelf.Tests.{and-left, cases-bool, eq-eqb}
 use Rattle.store.specs.Compare.{Told, Pair, allSame, weight, Pairs, Comparing}
 use Rattle.store.specs.Heap.{Store, leftOf, rightOf, BothOf, Den}
 use Rattle.store.specs.Slots.{slotAt, cellAt, WroteCell}
@@ -17,44 +17,30 @@ use Rattle.store.specs.Tree.{Tree, leaf, node, cells, sameTree}
 use Rattle.store.specs.declared.comparer.Compared.the-variants.{Differ, Parts}
 use Rattle.store.specs.declared.slot.Cell.{Cell}
 use Rattle.store.specs.declared.slot.Slot.{Slot}
-use Rattle.store.proofs.Laws.{den-at, leaf-is, leaf-kind, node-is, node-kind, node-left, node-right, one-tree, sameTree-refl}
-use Rattle.store.proofs.Words.{slot-parts}
+use Rattle.store.proofs.Laws.{den-at, leaf-is, leaf-kind, node-is, node-kind, node-left, node-right, one-tree}
+use Rattle.store.proofs.Laws.{sameTree-refl, sameTree-same}
 
 -- slots that are alike denote the same tree
 alike-same : {m : Store} {x y : Slot} (s t : Tree) → x ≡ y → Den m x s → Den m y t → sameTree s t ≡ true
 alike-same {m} s t e d d′ =
     subst (λ u. sameTree s u ≡ true) (one-tree d (subst (λ q. Den m q t) (sym e) d′)) (sameTree-refl s)
 
--- leaves that are the same tree have slots that are alike
-leaf-alike : {m : Store} {x y : Slot} (k l h k′ l′ h′ : ℕ) → Den m x (leaf k l h) → Den m y (leaf k′ l′ h′)
-    → sameTree (leaf k l h) (leaf k′ l′ h′) ≡ true → x ≡ y
-leaf-alike k l h k′ l′ h′ d d′ e =
-    let p = and-parts (eqb k k′) (eqb l l′ && eqb h h′) e in
-    let q = and-parts (eqb l l′) (eqb h h′) (p .1) in
-    leaf-is d ∙ (slot-parts {s = record { kind = k; low = l; high = h }} {t = record { kind = k′; low = l′; high = h′ }}
-    (eqb-true k k′ (p .0)) (eqb-true l l′ (q .0)) (eqb-true h h′ (q .1)) ∙ sym (leaf-is d′))
+-- slots that are alike don't differ
+pub alike-told : {x y : Slot} → Told x y Differ → x ≡ y → ⊥
+alike-told w e = elim w [ inl n ↦ n (ap (λ (q : Slot). q .kind) e) | inr p ↦ p .1 e ]
 
-leaf-differ : {m : Store} {x y : Slot} (s t : Tree) → x .kind < 16 → (x ≡ y → ⊥) → Den m x s → Den m y t
-    → sameTree s t ≡ false
-leaf-differ (leaf k l h) (leaf k′ l′ h′) b n d d′ =
-    elim (cases-bool (sameTree (leaf k l h) (leaf k′ l′ h′)))
-    [ inl e ↦ absurd (n (leaf-alike k l h k′ l′ h′ d d′ e)) | inr e ↦ e ]
-leaf-differ (leaf k l h) (node k′ c e) b n d d′ = refl
-leaf-differ (node k x y) t b n d d′ = absurd (omega (arith, node-is d, node-kind d))
-
-kind-differ : {m : Store} {x y : Slot} (s t : Tree) → (x .kind ≡ y .kind → ⊥) → Den m x s → Den m y t
-    → sameTree s t ≡ false
-kind-differ (leaf k l h) (leaf k′ l′ h′) n d d′ =
-    and-left (eqb k k′) (eqb l l′ && eqb h h′)
-    (ne-eqb k k′ (λ e. n (ap (λ (q : Slot). q .kind) (leaf-is d)
-    ∙ (e ∙ sym (ap (λ (q : Slot). q .kind) (leaf-is d′))))))
-kind-differ (leaf k l h) (node k′ c e) n d d′ = refl
-kind-differ (node k a b) (leaf k′ l′ h′) n d d′ = refl
-kind-differ (node k a b) (node k′ c e) n d d′ =
-    and-left (eqb k k′) (sameTree a c && sameTree b e) (ne-eqb k k′ (λ q. n (node-is d ∙ (q ∙ sym (node-is d′)))))
+-- no tree is denoted by two slots that tell that they differ
+never-both : {m : Store} {x y : Slot} (t : Tree) → Told x y Differ → Den m x t → Den m y t → ⊥
+never-both (leaf k l h) w d d′ = alike-told w (leaf-is d ∙ sym (leaf-is d′))
+never-both (node k a b) w d d′ =
+    elim w [ inl n ↦ n (node-is d ∙ sym (node-is d′)) | inr p ↦ omega (arith, p .0, node-is d, node-kind d) ]
 
 told-differ : {m : Store} {x y : Slot} (s t : Tree) → Told x y Differ → Den m x s → Den m y t → sameTree s t ≡ false
-told-differ s t w d d′ = elim w [ inl n ↦ kind-differ s t n d d′ | inr p ↦ leaf-differ s t (p .0) (p .1) d d′ ]
+told-differ {m} {x} {y} s t w d d′ =
+    elim (cases-bool (sameTree s t)) [
+      | inl e ↦ absurd (never-both s w d (subst (Den m y) (sym (sameTree-same s t e)) d′))
+      | inr e ↦ e
+    ]
 
 pairs-same : (m : Store) (w w′ : List ℕ) (ps : List Pair) → ((i : ℕ) → i < 2 * length ps → slotAt w′ i ≡ slotAt w i)
     → Pairs m w ps → Pairs m w′ ps
@@ -205,7 +191,3 @@ comparing-short {m} {w} {x} {y} e k =
     let q : Cell = record { left = leftOf (m .words) y; right = rightOf (m .words) y } in
     let o = opened {p = p} {q = q} e (record { left = refl; right = refl }) (record { left = refl; right = refl }) k in
     (omega (arith, o .room), omega (arith, o .steps))
-
--- slots that are alike don't differ
-pub alike-told : {x y : Slot} → Told x y Differ → x ≡ y → ⊥
-alike-told w e = elim w [ inl n ↦ n (ap (λ (q : Slot). q .kind) e) | inr p ↦ p .1 e ]

@@ -5,7 +5,7 @@ use mathlib.Core.List.{List}
 use Prim.Native.Nat.{ℕ, _+_, _*_, _≤_}
 use native.Mathlib.Omega.{arith}
 use lib.ListN.{length}
-use Rattle.store.specs.Heap.{Store, Denotes, Kept, Put}
+use Rattle.store.specs.Heap.{Store, storeOf, Denotes, Kept, Put}
 use Rattle.store.specs.Slots.{slotAt, placeOf, WroteCell}
 use Rattle.store.specs.Tree.{Tree, leaf, node}
 use Rattle.store.specs.declared.slot.Cell.{Cell}
@@ -38,16 +38,15 @@ denotes-one words used s (node k a b) (node k′ c g) d e =
 
 -- the cell after those in use was written
 pub kept-cell : (words words′ : List ℕ) (used : ℕ) {x : Cell} → WroteCell words words′ used x
-    → Kept (record { words = words; used = used }) (record { words = words′; used = used + 1 })
+    → Kept (storeOf words used) (storeOf words′ (used + 1))
 kept-cell words words′ used w =
     record { more = omega arith; same = λ j h. w .other j (λ e. omega arith) (λ e. omega arith) }
 
 pub put-cell : (words words′ : List ℕ) (used kind : ℕ) (x : Cell) (r : Slot) → 6 * (used + 1) ≤ length words′
     → r .kind ≡ kind → placeOf r ≡ used → WroteCell words words′ used x
-    → Put (record { words = words; used = used }) (record { words = words′; used = used + 1 }) kind (x .left) (x .right) r
+    → Put (storeOf words used) (storeOf words′ (used + 1)) kind (x .left) (x .right) r
 put-cell words words′ used kind x r n k p w =
-    let g : Kept (record { words = words; used = used }) (record { words = words′; used = used + 1 }) =
-    kept-cell words words′ used w in
+    let g = kept-cell words words′ used w in
     record {
       kept = g;
       stands = λ {s} {t} b d e.

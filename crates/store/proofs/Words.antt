@@ -62,7 +62,8 @@ wrote words j s h =
     }
 
 pub cell-past : (words : List ℕ) (c : ℕ) → length words ≤ 6 * c
-    → record { left = record { kind = 0; low = 0; high = 0 }; right = record { kind = 0; low = 0; high = 0 } } ≡ cellAt words c
+    → record { left = record { kind = 0; low = 0; high = 0 }; right = record { kind = 0; low = 0; high = 0 } } ≡
+    cellAt words c
 cell-past words c h =
     let p : slotAt words (2 * c) ≡ record { kind = 0; low = 0; high = 0 } = slot-past words (2 * c) (omega arith) in
     let q : slotAt words (2 * c + 1) ≡ record { kind = 0; low = 0; high = 0 } = slot-past words (2 * c + 1)

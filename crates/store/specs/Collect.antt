@@ -46,7 +46,8 @@ pub record Redirected (c : ℕ) (s s′ : Slot) : Type 0 where
 pub record Copied (from to′ : List ℕ) (used used′ : ℕ) (s : Slot) : Type 0 where
   pub count : used′ ≡ used + own s
   pub cell : 16 ≤ s .kind
-      → (slotAt to′ (2 * used) ≡ slotAt from (2 * placeOf s)) × (slotAt to′ (2 * used + 1) ≡ slotAt from (2 * placeOf s + 1))
+      → (slotAt to′ (2 * used) ≡ slotAt from (2 * placeOf s))
+      × (slotAt to′ (2 * used + 1) ≡ slotAt from (2 * placeOf s + 1))
 
 -- .. and all else is as it was
 pub record Appended (from to to′ : List ℕ) (used used′ : ℕ) (s : Slot) : Type 0 where

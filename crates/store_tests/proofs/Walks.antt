@@ -1,6 +1,6 @@
 -- A walk along a right edge: after n steps it stands at a slot, below which the rest of the edge hangs.
 -- The whole edge is at most as long as the cells in use, so the walk may count its steps up to that number.
-use mathlib.Core.Path.{_≡_, sym, ap, subst, _∙_}
+use mathlib.Core.Path.{_≡_, ap}
 use Prim.Native.Nat.{ℕ, _+_, _≤_, _<_}
 use native.Mathlib.Omega.{arith}
 use Rattle.store.specs.Heap.{Store, rightOf, Den}
@@ -11,7 +11,8 @@ use Rattle.store.proofs.Laws.{den-at, is-leaf, is-node, spine-fits}
 abbrev pub StandsAt : Store → Slot → ℕ → Tree → Type 0
 StandsAt m s n t = (u : Tree) × Den m s u × (spine t ≡ n + spine u)
 
-pub walk-on : {m : Store} {s s′ : Slot} (n : ℕ) (t : Tree) → 16 ≤ s .kind → s′ ≡ rightOf (m .words) s → StandsAt m s n t → StandsAt m s′ (n + 1) t
+pub walk-on : {m : Store} {s s′ : Slot} (n : ℕ) (t : Tree) → 16 ≤ s .kind → s′ ≡ rightOf (m .words) s
+    → StandsAt m s n t → StandsAt m s′ (n + 1) t
 walk-on n t b e w =
     let k = is-node (w .0) b (w .1) in
     (k .two, den-at e (k .right), omega (arith, w .2, ap spine (k .is)))

@@ -22,7 +22,8 @@ loop-i-again c =
     let a = appended-at (c .load-slot-root .ensures) (c .in-Ok .ensures tt) in (
       a .fits,
       omega (arith, a .copied .count, c .loop-i .inv .1, own-more (c .args .roots .now) (c .loop-i .i)),
-      (λ top. roots-step (storeOf (c .args .from .now) top) (c .args .roots .now) (c .loop-i .i) (c .loop-i .inv .1) a (c .loop-i .inv .2 top)),
+      (λ top. roots-step (storeOf (c .args .from .now) top) (c .args .roots .now) (c .loop-i .i) (c .loop-i .inv .1)
+          a (c .loop-i .inv .2 top)),
       (λ top ts r. ahead-step (c .loop-i-test .taken) a (c .loop-i .inv .3 top ts r)),
     )
 

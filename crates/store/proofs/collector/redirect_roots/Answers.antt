@@ -8,9 +8,11 @@ use Rattle.store.proofs.collector.redirect_roots.Needs as need
 pub loop-i-again : need.loop-i-again
 loop-i-again c =
     let old = slotAt (c .args .roots .now) (c .loop-i .i) in
-    let root : c .load-slot-root .result ≡ old = c .load-slot-root .ensures ∙ c .loop-i .inv .3 (c .loop-i .i) (omega arith) in
+    let root : c .load-slot-root .result ≡ old = c .load-slot-root .ensures
+    ∙ c .loop-i .inv .3 (c .loop-i .i) (omega arith) in
     let own-is : c .own-cells-next .result ≡ own old = c .own-cells-next .ensures ∙ ap own root in
-    let r = subst (λ n. Redirected n old (c .redirected .result)) (c .loop-i .inv .1) (redirected-at root (c .redirected .ensures)) in (
+    let r = subst (λ n. Redirected n old (c .redirected .result)) (c .loop-i .inv .1)
+    (redirected-at root (c .redirected .ensures)) in (
       omega (arith, c .loop-i .inv .0, own-is, own-one old),
       omega (arith, c .loop-i .inv .1, own-is, own-more (c .args .roots .now) (c .loop-i .i)),
       redirected-step (c .args .roots .now) (c .loop-i .i) r (c .set-slot .ensures) (c .loop-i .inv .2),

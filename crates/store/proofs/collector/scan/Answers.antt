@@ -20,7 +20,8 @@ loop-j-again c =
       omega (arith, a .fits, c .set-slot .kept),
       omega (arith, a .kept .more, c .loop-j-test .taken),
       (λ top sum q. waiting-step (c .loop-j-test .taken) a r w (c .loop-j .inv .2 top sum q)),
-      (λ top s t d. mixed-step (storeOf (c .args .from .now) top) (c .loop-j-test .taken) a r w s t (c .loop-j .inv .3 top s t d)),
+      (λ top s t d. mixed-step (storeOf (c .args .from .now) top) (c .loop-j-test .taken) a r w s t
+          (c .loop-j .inv .3 top s t d)),
     )
 
 pub returns : need.returns
@@ -28,6 +29,9 @@ returns c =
     record {
       fits = c .loop-j .inv .0;
       stands = λ top s t d.
-          record { is = mixed-done (storeOf (c .args .from .now) top) (c .loop-j .to) (c .loop-j .j) (c .loop-j .used) s t (c .loop-j-test .left) (c .loop-j .inv .3 top s t d) };
+          record {
+            is = mixed-done (storeOf (c .args .from .now) top) (c .loop-j .to) (c .loop-j .j)
+                (c .loop-j .used) s t (c .loop-j-test .left) (c .loop-j .inv .3 top s t d);
+          };
       count = λ top sum q. waiting-done (c .loop-j-test .left) (c .loop-j .inv .2 top sum q);
     }

@@ -19,7 +19,10 @@ pub returns-then-depth-eq0 : need.returns-then-depth-eq0
 returns-then-depth-eq0 c =
     let same = c .in-Same .ensures tt in
     record {
-      cases = record { is = λ {used} {s} {t} d e. comparing-done same (c .if-depth-eq0 .taken) (c .pairs .inv .0 used s t d e) };
+      cases = record {
+        is = λ {used} {s} {t} d e. comparing-done same (c .if-depth-eq0 .taken)
+            (c .pairs .inv .0 used s t d e);
+      };
       alike = λ e. refl;
     }
 
@@ -37,7 +40,8 @@ returns-then-left-eq0 c =
     record {
       cases = record {
         short = λ {used} {s} {t} d e.
-            let short = comparing-short parts (c .pairs .inv .0 used s t d e) in inr (omega (arith, short, c .if-left-eq0 .taken));
+            let short = comparing-short parts (c .pairs .inv .0 used s t d e) in inr
+            (omega (arith, short, c .if-left-eq0 .taken));
       };
       alike = λ e. absurd (parts .2 (c .pairs .inv .1 e .0));
     }
@@ -49,7 +53,8 @@ returns-in-Err c =
     record {
       cases = record {
         short = λ {used} {s} {t} d e.
-            let short = comparing-short parts (c .pairs .inv .0 used s t d e) in inl (omega (arith, short, full, c .pairs .kept .scratch));
+            let short = comparing-short parts (c .pairs .inv .0 used s t d e) in inl
+            (omega (arith, short, full, c .pairs .kept .scratch));
       };
       alike = λ e. absurd (parts .2 (c .pairs .inv .1 e .0));
     }
@@ -59,7 +64,9 @@ pairs-again c =
     let parts = c .in-Parts .ensures tt in
     let some : 0 < c .pairs .left = omega (arith, c .if-left-eq0 .left) in (
       (λ used s t d e.
-          comparing-lefts parts some (c .both-one .ensures) (c .both-two .ensures) (c .in-Ok .ensures tt) (c .pairs .inv .0 used s t d e)),
+          comparing-lefts {w = c .pairs .scratch} {w′ = c .write-cell .last .words} {depth = c .pairs .depth} parts
+          some (c .both-one .ensures) (c .both-two .ensures) (c .in-Ok .ensures tt)
+          (c .pairs .inv .0 used s t d e)),
       (λ e. absurd (parts .2 (c .pairs .inv .1 e .0))),
     )
 
@@ -68,6 +75,7 @@ pairs-again-then-eq c =
     let parts = c .in-Parts .ensures tt in
     let some : 0 < c .pairs .left = omega (arith, c .if-left-eq0 .left) in
     let alike : c .both-one .result .left ≡ c .both-two .result .left = search needs in (
-      (λ used s t d e. comparing-rights parts some (c .both-one .ensures) (c .both-two .ensures) alike (c .pairs .inv .0 used s t d e)),
+      (λ used s t d e. comparing-rights parts some (c .both-one .ensures) (c .both-two .ensures) alike
+          (c .pairs .inv .0 used s t d e)),
       (λ e. absurd (parts .2 (c .pairs .inv .1 e .0))),
     )
