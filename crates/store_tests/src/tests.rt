@@ -50,7 +50,6 @@ fn shared(heap: &mut Heap<'_>, n: u32) -> Result<Slot, Full> {
 #[test]
 fn long_lists_are_compared(rt: LibcRuntime) -> Result<(), Fail> {
     let mut words = vec![in rt.alloc(); 0; 1_800_000]?;
-    let mut scratch = [0; 6];
     let mut heap = Heap {
         words: &mut words,
         used: 0,
@@ -58,12 +57,24 @@ fn long_lists_are_compared(rt: LibcRuntime) -> Result<(), Fail> {
     let one = list(&mut heap, 100_000, number(1))?;
     let two = list(&mut heap, 100_000, number(1))?;
     let other = list(&mut heap, 100_000, number(2))?;
-    check_eq(heap.used, 300_000)?;
-    check_eq(heap.equal(one, two, &mut scratch, 100_000), Ok(true))?;
-    check_eq(heap.equal(one, other, &mut scratch, 100_000), Ok(false))?;
-    check_eq(heap.equal(one, two, &mut scratch, 99_999), Err(Full)).note("one step too few")?;
-    check_eq(heap.equal(one, two, &mut [0; 5], 100_000), Err(Full)).note("one word too few")?;
-    check_eq(heap.equal(one, one, &mut [0; 0], 0), Ok(true)).note("slots that are alike")
+    check_eq(heap.equal(one, two, &mut [], 100_000), Ok(true))?;
+    check_eq(heap.equal(one, other, &mut [], 100_000), Ok(false))?;
+    check_eq(heap.equal(one, two, &mut [], 99_999), Err(Full)).note("one step too few")?;
+    check_eq(heap.equal(one, one, &mut [], 0), Ok(true)).note("slots that are alike")
+}
+
+#[test]
+fn trees_wait_on_the_stack() -> Result<(), Fail> {
+    let mut words = [0; 36];
+    let mut heap = Heap {
+        words: &mut words,
+        used: 0,
+    };
+    let one = shared(&mut heap, 3)?;
+    let two = shared(&mut heap, 3)?;
+    check_eq(heap.equal(one, two, &mut [0; 12], 7), Ok(true))?;
+    check_eq(heap.equal(one, two, &mut [0; 11], 7), Err(Full)).note("one word too few")?;
+    check_eq(heap.equal(one, two, &mut [0; 12], 6), Err(Full)).note("one step too few")
 }
 
 #[test]
@@ -87,7 +98,7 @@ fn a_list_is_collected(rt: LibcRuntime) -> Result<(), Fail> {
     };
     check_eq(spine_of(&heap, copy), 100_000)?;
     let again = list(&mut heap, 100_000, number(1))?;
-    check_eq(heap.equal(copy, again, &mut [0; 6], 100_000), Ok(true))
+    check_eq(heap.equal(copy, again, &mut [], 100_000), Ok(true))
 }
 
 #[test]
