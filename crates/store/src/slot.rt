@@ -10,6 +10,9 @@ ghost use Rattle.store.specs.Slots.{cellAt, placeOf, slotAt, Ended, Wrote, Wro
 /// The first kind of a node; the kinds below are those of leaves.
 pub const FIRST_NODE: u32 = 16;
 
+/// How many values a word has: a cell's number is two words, the low one first.
+const RADIX: usize = 4294967296;
+
 /// Three words: a leaf's own, or a node's, whose last two are the number of its cell.
 #[derive(Clone, Copy, Debug, PartialEq, Eq)]
 pub struct Slot {
@@ -45,7 +48,7 @@ impl Slot {
     pub fn place(self) -> Place
         ensures { λ r. ⌜ r .0 ≡ placeOf self ⌝ }
     {
-        Place(self.low as usize + 4294967296 * self.high as usize)
+        Place(self.low as usize + RADIX * self.high as usize)
     }
 }
 
@@ -57,8 +60,8 @@ impl Place {
     {
         Slot {
             kind,
-            low: (self.0 % 4294967296) as u32,
-            high: (self.0 / 4294967296) as u32,
+            low: (self.0 % RADIX) as u32,
+            high: (self.0 / RADIX) as u32,
         }
     }
 }
