@@ -51,7 +51,6 @@ pub wrote : (words : List ℕ) (j : ℕ) (s : Slot) → 3 * j + 3 ≤ length wor
 unfolding written
 wrote words j s h =
     record {
-      fits = h;
       here = slot-is (written words j s) j s
           (grind (arith, places, getD-set-same, length-set)) (grind (arith, places, getD-set-same, length-set))
           (grind (arith, places, getD-set-same, length-set));

@@ -2,8 +2,8 @@
 -- Words past the end read as 0, so that every read has an answer.
 use mathlib.Core.Path.{_≡_}
 use mathlib.Core.List.{List}
-use Prim.Native.Nat.{ℕ, _+_, _*_, _≤_, _<_}
-use lib.ListN.{getD, length}
+use Prim.Native.Nat.{ℕ, _+_, _*_}
+use lib.ListN.{getD}
 use Rattle.store.specs.declared.slot.Cell.{Cell}
 use Rattle.store.specs.declared.slot.Slot.{Slot}
 
@@ -20,18 +20,11 @@ placeOf s = s .low + 4294967296 * s .high
 
 -- the slot j was written, and no other
 pub record Wrote (words words′ : List ℕ) (j : ℕ) (s : Slot) : Type 0 where
-  pub fits : 3 * j + 3 ≤ length words
   pub here : slotAt words′ j ≡ s
   pub other : (i : ℕ) → (i ≡ j → ⊥) → slotAt words′ i ≡ slotAt words i
 
 -- the cell c was written, and no slot of another
 pub record WroteCell (words words′ : List ℕ) (c : ℕ) (x : Cell) : Type 0 where
-  pub fits : 6 * (c + 1) ≤ length words
   pub left : slotAt words′ (2 * c) ≡ x .left
   pub right : slotAt words′ (2 * c + 1) ≡ x .right
   pub other : (i : ℕ) → (i ≡ 2 * c → ⊥) → (i ≡ 2 * c + 1 → ⊥) → slotAt words′ i ≡ slotAt words i
-
--- the words end before the n-th, and nothing was written
-pub record Ended (words words′ : List ℕ) (n : ℕ) : Type 0 where
-  pub short : length words < n
-  pub same : words′ ≡ words

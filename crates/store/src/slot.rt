@@ -5,7 +5,7 @@ ghost use Prim.Native.Nat.{ℕ, _+_, _*_, _<_, _≤_};
 ghost use lib.ListN.{getD, length};
 ghost use Rattle.std.specs.Results.{Cases};
 ghost use Rattle.store.specs.Heap.{leftOf, rightOf, BothOf};
-ghost use Rattle.store.specs.Slots.{cellAt, placeOf, slotAt, Ended, Wrote, WroteCell};
+ghost use Rattle.store.specs.Slots.{cellAt, placeOf, slotAt, Wrote, WroteCell};
 
 /// The first kind of a node; the kinds below are those of leaves.
 pub const FIRST_NODE: u32 = 16;
@@ -87,8 +87,8 @@ pub fn read_slot(words: &[u32], j: usize) -> Slot
 /// Writes the slot of that number, unless the words end before.
 pub fn write_slot(words: &mut [u32], j: usize, slot: Slot) -> Result<(), Full>
     ensures { λ r. ⌜ Cases r
-        (λ _. Wrote (now (words .entry)) (now (words .exit)) j slot)
-        (λ _. Ended (now (words .entry)) (now (words .exit)) (3 * j + 3)) ⌝ }
+        (λ _. (3 * j + 3 ≤ length (now (words .entry))) × Wrote (now (words .entry)) (now (words .exit)) j slot)
+        (λ _. (length (now (words .entry)) < 3 * j + 3) × (now (words .exit) ≡ now (words .entry))) ⌝ }
 {
     if j >= words.len() / 3 {
         return Err(Full);
@@ -123,8 +123,9 @@ pub fn read_cell(words: &[u32], place: Place) -> Cell
 /// Writes both slots of a cell, unless the words end before.
 pub fn write_cell(words: &mut [u32], place: Place, cell: Cell) -> Result<(), Full>
     ensures { λ r. ⌜ Cases r
-        (λ _. WroteCell (now (words .entry)) (now (words .exit)) (place .0) cell)
-        (λ _. Ended (now (words .entry)) (now (words .exit)) (6 * (place .0 + 1))) ⌝ }
+        (λ _. (6 * (place .0 + 1) ≤ length (now (words .entry)))
+        × WroteCell (now (words .entry)) (now (words .exit)) (place .0) cell)
+        (λ _. (length (now (words .entry)) < 6 * (place .0 + 1)) × (now (words .exit) ≡ now (words .entry))) ⌝ }
 {
     let Place(c) = place;
     if c >= words.len() / 6 {

@@ -49,7 +49,7 @@ returns-then-left-eq0 c =
 pub returns-in-Err : need.returns-in-Err
 returns-in-Err c =
     let parts = c .in-Parts .ensures tt in
-    let full = c .in-Err .ensures tt .short in
+    let full = c .in-Err .ensures tt .0 in
     record {
       cases = record {
         short = λ {used} {s} {t} d e.
@@ -65,7 +65,7 @@ pairs-again c =
     let some : 0 < c .pairs .left = omega (arith, c .if-left-eq0 .left) in (
       (λ used s t d e.
           comparing-lefts {w = c .pairs .scratch} {w′ = c .write-cell .last .words} {depth = c .pairs .depth} parts
-          some (c .both-one .ensures) (c .both-two .ensures) (c .in-Ok .ensures tt)
+          some (c .both-one .ensures) (c .both-two .ensures) (c .in-Ok .ensures tt .1)
           (c .pairs .inv .0 used s t d e)),
       (λ e. absurd (parts .2 (c .pairs .inv .1 e .0))),
     )

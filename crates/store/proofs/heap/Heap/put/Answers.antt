@@ -10,6 +10,6 @@ returns-in-Ok c =
       cases =
           put-cell (c .args .self .now .words .now) (c .write-cell .last .words) (c .args .self .now .used)
           (c .args .kind) _ (c .slot .result)
-          (omega (arith, c .in-Ok .ensures tt .fits, c .write-cell .kept .words)) (c .slot .ensures .kind)
-          (c .slot .ensures .place) (c .in-Ok .ensures tt);
+          (omega (arith, c .in-Ok .ensures tt .0, c .write-cell .kept .words)) (c .slot .ensures .kind)
+          (c .slot .ensures .place) (c .in-Ok .ensures tt .1);
     }
