@@ -4,3 +4,7 @@ pub mod LookAhead
 pub mod ReadsPatterns
 pub mod ReadsExprs
 pub mod Complete
+pub mod Made
+pub mod SoundExprs
+pub mod SoundPatterns
+pub mod Sound
