@@ -8,3 +8,4 @@ pub mod Made
 pub mod SoundExprs
 pub mod SoundPatterns
 pub mod Sound
+pub mod Exact
