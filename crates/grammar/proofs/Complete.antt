@@ -18,10 +18,12 @@ abbrev pub more-names : Snoc Name → List Name → Bool
 more-names none-yet xs = true
 more-names (snoc acc x) [] = false
 more-names (snoc acc x) (y ∷ ys) = true
+
 pub reads-parameter : (x : Name) (acc : Snoc Name) (m : Modules) (y : Name) (ws : List Name) → T (is-name y) → run (want-parameter x acc m) (y ∷ ws) ≡ run (after-parameter x (snoc acc y) m) ws
 reads-parameter x none-yet m y ws h =
     ap (λ (b : Bool). then-run (cond b (some (after-parameters x [] m)) (when (is-name y) (after-parameter x (snoc none-yet y) m))) ws) (differ (λ z. T (is-name z)) y close-paren h (λ q. q)) ∙ then-when y (after-parameter x (snoc none-yet y) m) ws h
 reads-parameter x (snoc acc z) m y ws h = then-when y (after-parameter x (snoc (snoc acc z) y) m) ws h
+
 pub reads-names : {s ps : List Name} → NamesOf s ps → (x : Name) (acc : Snoc Name) (m : Modules) → T (more-names acc ps) → (ws : List Name) → run (want-parameter x acc m) (s ++ (close-paren ∷ ws)) ≡ run (after-parameters x (list-of acc ps) m) ws
 reads-names no-n x none-yet m f ws = refl
 reads-names no-n x (snoc acc y) m f ws = absurd f
@@ -39,9 +41,11 @@ reads-function (function-x {x = x} {s = s} {t = t} {ps = ps} {b = b} h d g) m y 
 abbrev pub all-snoc : Snoc Function → List Function → Snoc Function
 all-snoc acc [] = acc
 all-snoc acc (f ∷ fs) = all-snoc (snoc acc f) fs
+
 pub all-snoc-is : (acc : Snoc Function) (fs : List Function) → list-of (all-snoc acc fs) [] ≡ list-of acc fs
 all-snoc-is acc [] = refl
 all-snoc-is acc (f ∷ fs) = all-snoc-is (snoc acc f) fs
+
 pub reads-functions : {s : List Name} {fs : List Function} → FunctionsOf s fs → (m : Modules) (y : Name) (acc : Snoc Function) (ws : List Name) → run (top-level (in-module m y acc)) (s ++ ws) ≡ run (top-level (in-module m y (all-snoc acc fs))) ws
 reads-functions no-f m y acc ws = refl
 reads-functions (more-f {s = s} {t = t} {f = f} d g) m y acc ws =
@@ -50,12 +54,13 @@ reads-functions (more-f {s = s} {t = t} {f = f} d g) m y acc ws =
 pub module-begins : (m : Modules) → at-top-level m k-module ≡ some (after-module m)
 module-begins no-module = refl
 module-begins (in-module m x acc) = refl
+
 pub reads-modules : {s : List Name} {g : Program} → ModulesOf s g → (m : Modules) → on-some (run (top-level m) s) program-at ≡ some (program-of m g)
 reads-modules no-m m = refl
 reads-modules (more-m {x = x} {s = s} {t = t} {fs = fs} {ms = ms} h d g) m =
     ap (λ o. on-some o program-at)
-      (ap (λ o. then-run o (x ∷ semicolon ∷ (s ++ t))) (module-begins m)
-      ∙ (then-when x (after-module-name x m) (semicolon ∷ (s ++ t)) h ∙ reads-functions d m x none-yet t))
+    (ap (λ o. then-run o (x ∷ semicolon ∷ (s ++ t))) (module-begins m)
+    ∙ (then-when x (after-module-name x m) (semicolon ∷ (s ++ t)) h ∙ reads-functions d m x none-yet t))
     ∙ (reads-modules g (in-module m x (all-snoc none-yet fs)) ∙ ap (λ fs. some (program-of m (module-of x fs ∷ ms))) (all-snoc-is none-yet fs))
 
 -- whatever pieces are a program, the machine reads that program

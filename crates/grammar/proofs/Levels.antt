@@ -15,7 +15,7 @@ use Rattle.grammar.specs.Expressions.{binary, reduced, reduce, comparing, afte
 use Rattle.grammar.specs.Machine.{name-ends, clauses-end}
 use Rattle.grammar.specs.Patterns.{is-pair, after-pattern}
 use Rattle.grammar.specs.Stack.{none-yet, ExprStack, operand, in-parens, in-list, in-case, in-until, in-statement, in-binding, PatternStack, in-cons, want-expr, after-colon}
-use Rattle.meaning.proofs.Splits.{is-true, and-T, cond-false}
+use Rattle.meaning.proofs.Splits.{eqb-isnt, is-true, and-T, cond-false}
 use Rattle.grammar.proofs.Tokens.{differ}
 
 -- what may stand behind an expression of level n: an operator that no operator of this level takes as its own
@@ -105,6 +105,16 @@ not-comparing (in-case k) h = refl
 not-comparing (in-until cs k) h = refl
 not-comparing (in-statement xs k) h = refl
 not-comparing (in-binding p xs k) h = refl
+
+-- where nothing but a comparison could wait, and none does, nothing waits
+pub may-compare : (k : ExprStack) → T (below 1 k) → comparing k ≡ false → T (fits 0 k)
+may-compare (operand m o a k) b h = absurd (eqb-isnt m _ h (omega (arith, ltb→lt m 1 b)))
+may-compare (in-parens k) b h = tt
+may-compare (in-list c o xs k) b h = tt
+may-compare (in-case k) b h = tt
+may-compare (in-until cs k) b h = tt
+may-compare (in-statement xs k) b h = tt
+may-compare (in-binding p xs k) b h = tt
 
 pub all-at-least : (n : ℕ) → leb 0 n ≡ true
 all-at-least n = is-true (leb 0 n) (le→leb 0 n (omega arith))

@@ -13,13 +13,17 @@ use Rattle.grammar.proofs.Tokens.{class-number, atom-letters, class-name, clas
 
 pub pass-over : (d : ℕ) (w : Name) (ws : List Name) → landmark (class-of w) ≡ l-none → binds d (w ∷ ws) ≡ binds d ws
 pass-over d w ws h = ap (λ b. pass d b (λ n. binds n ws)) h
+
 pub pass-name : (d : ℕ) (w : Name) (ws : List Name) → T (is-name w) → binds d (w ∷ ws) ≡ binds d ws
 pass-name d w ws h = pass-over d w ws (ap landmark (class-name w h))
+
 pub pass-number : (d : ℕ) (w : Name) (n : ℕ) (ws : List Name) → Number w n → binds d (w ∷ ws) ≡ binds d ws
 pass-number d w n ws h = pass-over d w ws (ap landmark (class-number w n h))
+
 -- from inside to the bracket's end
 pub pass-brackets : (d : ℕ) (s : List Name) (c : Name) (ws : List Name) → landmark (class-of c) ≡ l-close → binds (suc d) (s ++ (c ∷ ws)) ≡ binds (suc d) (c ∷ ws) → binds (suc d) ((s ++ (c ∷ [])) ++ ws) ≡ binds d ws
 pass-brackets d s c ws h q = ap (binds (suc d)) (append-assoc s (c ∷ []) ws) ∙ (q ∙ ap (λ b. pass (suc d) b (λ n. binds n ws)) h)
+
 mutual
   pub pass-pattern : {n : ℕ} {s : List Name} {p : Pattern} → PatternAt n s p → (d : ℕ) (ws : List Name) → binds d (s ++ ws) ≡ binds d ws
   pass-pattern (cons-x {s = s} {t = t} x y) d ws = ap (binds d) (append-assoc s (double-colon ∷ t) ws) ∙ (pass-pattern x d (double-colon ∷ (t ++ ws)) ∙ pass-pattern y d ws)
@@ -31,10 +35,12 @@ mutual
   pass-pattern (tuple-x {s = s} x) d ws = pass-brackets d s close-brace ws refl (pass-patterns x (suc d) (close-brace ∷ ws))
   pass-pattern nil-x d ws = refl
   pass-pattern (brackets-x {s = s} x) d ws = pass-brackets d s close-paren ws refl (pass-pattern x (suc d) (close-paren ∷ ws))
+
   pub pass-patterns : {s : List Name} {ps : Patterns} → PatternsOf s ps → (d : ℕ) (ws : List Name) → binds d (s ++ ws) ≡ binds d ws
   pass-patterns no-x d ws = refl
   pass-patterns (one-x x) d ws = pass-pattern x d ws
   pass-patterns (more-x {s = s} {t = t} x y) d ws = ap (binds d) (append-assoc s (comma ∷ t) ws) ∙ (pass-pattern x d (comma ∷ (t ++ ws)) ∙ pass-patterns y d ws)
+
 pub pass-operator : {l : ℕ} {w : Name} {o : Operator} → Infix l w o → landmark (class-of w) ≡ l-none
 pass-operator plus-sign = refl
 pass-operator minus-sign = refl
@@ -73,19 +79,21 @@ mutual
       ∙ (ap (binds d) (append-assoc t (open-brace ∷ (u ++ (close-brace ∷ []))) ws)
       ∙ (pass-expr y d (open-brace ∷ ((u ++ (close-brace ∷ [])) ++ ws)) ∙ pass-brackets d u close-brace ws refl (pass-body z d (close-brace ∷ ws)))))
   pass-expr (catch-e {s = s} x) d ws = pass-brackets d s close-brace ws refl (pass-body x d (close-brace ∷ ws))
+
   pub pass-exprs : {s : List Name} {es : Exprs} → ExprsOf s es → (d : ℕ) (ws : List Name) → binds d (s ++ ws) ≡ binds d ws
   pass-exprs none-es d ws = refl
   pass-exprs (one-es x) d ws = pass-expr x d ws
   pass-exprs (more-es {s = s} {t = t} x y) d ws = ap (binds d) (append-assoc s (comma ∷ t) ws) ∙ (pass-expr x d (comma ∷ (t ++ ws)) ∙ pass-exprs y d ws)
+
   pub pass-body : {s : List Name} {b : Body} → BodyOf s b → (d : ℕ) (ws : List Name) → binds (suc d) (s ++ ws) ≡ binds (suc d) ws
   pass-body (last-b x) d ws = pass-expr x (suc d) ws
   pass-body (then-b {s = s} {t = t} x y) d ws = ap (binds (suc d)) (append-assoc s (semicolon ∷ t) ws) ∙ (pass-expr x (suc d) (semicolon ∷ (t ++ ws)) ∙ pass-body y d ws)
   pass-body (bind-b {s = s} {t = t} {u = u} x y z) d ws =
       ap (binds (suc d)) (append-assoc s (equals ∷ (t ++ (semicolon ∷ u))) ws) ∙ (pass-pattern x (suc d) (equals ∷ ((t ++ (semicolon ∷ u)) ++ ws))
       ∙ (ap (binds (suc d)) (append-assoc t (semicolon ∷ u) ws) ∙ (pass-expr y (suc d) (semicolon ∷ (u ++ ws)) ∙ pass-body z d ws)))
+
   pub pass-clauses : {s : List Name} {cs : Clauses} → ClausesOf s cs → (d : ℕ) (ws : List Name) → binds (suc d) (s ++ ws) ≡ binds (suc d) ws
   pass-clauses no-cs d ws = refl
   pass-clauses (more-cs {s = s} {t = t} {u = u} x y z) d ws =
       ap (binds (suc d)) (append-assoc s (arrow ∷ open-brace ∷ (t ++ (close-brace ∷ u))) ws) ∙ (pass-pattern x (suc d) (arrow ∷ open-brace ∷ ((t ++ (close-brace ∷ u)) ++ ws))
       ∙ (ap (binds (suc (suc d))) (append-assoc t (close-brace ∷ u) ws) ∙ (pass-body y (suc d) (close-brace ∷ (u ++ ws)) ∙ pass-clauses z d ws)))
-

@@ -23,13 +23,13 @@ pub data Made {A : Type 0} (Each : A → List Name → Type 0) : Snoc A → List
 
 -- what each element does to a whole, the elements do together
 pub made-onto :
-  {A C : Type 0} {Each : A → List Name → Type 0} (Whole : List Name → C → Type 0) (f : A → C → C) →
-  ((x : A) (t s : List Name) (c : C) → Each x t → Whole s c → Whole (t ++ s) (f x c)) →
-  {xs : Snoc A} {s : List Name} → Made Each xs s → (t : List Name) (c : C) → Whole t c → Whole (s ++ t) (onto f xs c)
+    {A C : Type 0} {Each : A → List Name → Type 0} (Whole : List Name → C → Type 0) (f : A → C → C) →
+    ((x : A) (t s : List Name) (c : C) → Each x t → Whole s c → Whole (t ++ s) (f x c)) →
+    {xs : Snoc A} {s : List Name} → Made Each xs s → (t : List Name) (c : C) → Whole t c → Whole (s ++ t) (onto f xs c)
 made-onto Whole f one made-none t c d = d
 made-onto Whole f one (made-more {xs = xs} {x = x} {s = s} {t = u} m e q) t c d =
     subst (λ z. Whole z (onto f xs (f x c))) (sym (ap (λ z. z ++ t) q ∙ append-assoc s u t))
-      (made-onto Whole f one m (u ++ t) (f x c) (one x u t c e d))
+    (made-onto Whole f one m (u ++ t) (f x c) (one x u t c e d))
 
 -- the elements: each with the sign behind it
 pub data Argument : Expr → List Name → Type 0 where
@@ -114,11 +114,12 @@ pub modules-made : {m : Modules} {s : List Name} → ModulesMade m s → (t : Li
 modules-made made-no-module t g d = d
 modules-made (made-module {m = m} {x = x} {acc = acc} {s = s} {t = u} a h f q) t g d =
     subst (λ z. ModulesOf z (program-of m (module-of x (list-of acc []) ∷ g))) (sym (ap (λ z. z ++ t) q ∙ append-assoc s (k-module ∷ x ∷ semicolon ∷ u) t))
-      (modules-made a (k-module ∷ x ∷ semicolon ∷ (u ++ t)) (module-of x (list-of acc []) ∷ g) (more-m h (subst (λ z. FunctionsOf z (list-of acc [])) (append-nil u) (functions-made f [] [] no-f)) d))
+    (modules-made a (k-module ∷ x ∷ semicolon ∷ (u ++ t)) (module-of x (list-of acc []) ∷ g) (more-m h (subst (λ z. FunctionsOf z (list-of acc [])) (append-nil u) (functions-made f [] [] no-f)) d))
 
 pub data OwnerMade : Owner → List Name → Type 0 where
   made-of-case : {e : Expr} {s v : List Name} → ExprAt 0 s e → v ≡ k-case ∷ (s ++ (open-brace ∷ [])) → OwnerMade (of-case e) v
   made-of-receive : OwnerMade of-receive (k-receive ∷ open-brace ∷ [])
+
 pub data OperationMade : Bracket → Operation → List Name → Type 0 where
   open-tuple : OperationMade brace make-tuple (open-brace ∷ [])
   open-call : {f : Name} → T (is-name f) → OperationMade paren (call f) (f ∷ open-paren ∷ [])
@@ -126,6 +127,7 @@ pub data OperationMade : Bracket → Operation → List Name → Type 0 where
   open-spawn : {f : Name} → T (is-name f) → OperationMade paren (spawn f) (k-spawn ∷ f ∷ open-paren ∷ [])
   open-far-spawn : {m f : Name} → T (is-name m) → T (is-name f) → OperationMade paren (far-spawn m f) (k-spawn ∷ m ∷ colon ∷ f ∷ open-paren ∷ [])
   open-builtin : {w : Name} {n : Builtin} → ((k : ℕ) → T (takes n k) → Builtin-word w n k) → OperationMade paren (built-in n) (w ∷ open-paren ∷ [])
+
 pub operation-closes : {b : Bracket} {j : Operation} {o : List Name} → OperationMade b j o → (s : List Name) (es : Exprs) → ExprsOf s es → T (arity-fits j es) → ExprAt 4 (o ++ (s ++ (closing b ∷ []))) (apply j es)
 operation-closes open-tuple s es d r = tuple-e d
 operation-closes (open-call h) s es d r = call-e h d
@@ -143,11 +145,13 @@ mutual
     made-until : {cs : Clauses} {k : ExprStack} {u s v : List Name} → ExprStackMade k u → ClausesOf s cs → v ≡ u ++ (k-receive ∷ open-brace ∷ (s ++ (close-brace ∷ k-until ∷ []))) → ExprStackMade (in-until cs k) v
     made-statement : {acc : Snoc Statement} {k : BodyStack} {u s v : List Name} → BodyStackMade k u → Made StatementMade acc s → v ≡ u ++ s → ExprStackMade (in-statement acc k) v
     made-binding : {p : Pattern} {acc : Snoc Statement} {k : BodyStack} {u s y v : List Name} → BodyStackMade k u → Made StatementMade acc s → PatternAt 0 y p → v ≡ u ++ (s ++ (y ++ (equals ∷ []))) → ExprStackMade (in-binding p acc k) v
+
   pub data BodyStackMade : BodyStack → List Name → Type 0 where
     made-arm : {p : Pattern} {h : Owner} {acc : Snoc Arm} {k : ExprStack} {u o s y v : List Name} → ExprStackMade k u → OwnerMade h o → Made ClauseMade acc s → PatternAt 0 y p → v ≡ u ++ (o ++ (s ++ (y ++ (arrow ∷ open-brace ∷ [])))) → BodyStackMade (in-arm p h acc k) v
     made-timeout : {cs : Clauses} {e : Expr} {k : ExprStack} {u s t v : List Name} → ExprStackMade k u → ClausesOf s cs → ExprAt 0 t e → v ≡ u ++ (k-receive ∷ open-brace ∷ (s ++ (close-brace ∷ k-until ∷ (t ++ (open-brace ∷ []))))) → BodyStackMade (in-timeout cs e k) v
     made-catch : {k : ExprStack} {u v : List Name} → ExprStackMade k u → v ≡ u ++ (k-catch ∷ open-brace ∷ []) → BodyStackMade (in-catch k) v
     made-function : {x : Name} {ps : List Name} {m : Modules} {u s v : List Name} → ModulesMade m u → T (is-name x) → NamesOf s ps → v ≡ u ++ (k-fn ∷ x ∷ open-paren ∷ (s ++ (close-paren ∷ open-brace ∷ []))) → BodyStackMade (in-function x ps m) v
+
 pub data PatternStackMade : PatternStack → List Name → Type 0 where
   made-cons : {p : Pattern} {k : PatternStack} {u s v : List Name} → PatternStackMade k u → PatternAt 1 s p → v ≡ u ++ (s ++ (double-colon ∷ [])) → PatternStackMade (in-cons p k) v
   made-group : {k : PatternStack} {u v : List Name} → PatternStackMade k u → v ≡ u ++ (open-paren ∷ []) → PatternStackMade (in-group k) v

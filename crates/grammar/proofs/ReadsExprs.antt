@@ -25,6 +25,7 @@ use Rattle.grammar.proofs.ReadsPatterns.{then-run, reads-pattern}
 pub statement-expr : (acc : Snoc Statement) (k : BodyStack) (s : List Name) (w : Name) (ws : List Name) → binds 0 (s ++ (w ∷ ws)) ≡ false → run (want-statement acc k) (s ++ (w ∷ ws)) ≡ run (want-expr (in-statement acc k)) (s ++ (w ∷ ws))
 statement-expr acc k [] w ws h = ap (λ b. then-run (cond b (start-pattern (before-equals acc k) (class-of w)) (start-expr (in-statement acc k) (class-of w))) ws) h
 statement-expr acc k (x ∷ xs) w ws h = ap (λ b. then-run (cond b (start-pattern (before-equals acc k) (class-of x)) (start-expr (in-statement acc k) (class-of x))) (xs ++ (w ∷ ws))) h
+
 pub statement-pattern : (acc : Snoc Statement) (k : BodyStack) (s : List Name) (w : Name) (ws : List Name) → binds 0 (s ++ (w ∷ ws)) ≡ true → run (want-statement acc k) (s ++ (w ∷ ws)) ≡ run (want-pattern (before-equals acc k)) (s ++ (w ∷ ws))
 statement-pattern acc k [] w ws h = ap (λ b. then-run (cond b (start-pattern (before-equals acc k) (class-of w)) (start-expr (in-statement acc k) (class-of w))) ws) h
 statement-pattern acc k (x ∷ xs) w ws h = ap (λ b. then-run (cond b (start-pattern (before-equals acc k) (class-of x)) (start-expr (in-statement acc k) (class-of x))) (xs ++ (w ∷ ws))) h
@@ -33,26 +34,30 @@ abbrev pub more-if-begun : Snoc Expr → Exprs → Bool
 more-if-begun none-yet es = true
 more-if-begun (snoc acc e) no-e = false
 more-if-begun (snoc acc e) (and-e f es) = true
+
 pub list-closes : (b : Bracket) (j : Operation) (es : Exprs) (k : ExprStack) → T (arity-fits j es) → close-list b b j es k ≡ some (have-expr (apply j es) k)
 list-closes brace j es k h = ap (λ x. cond x (some (have-expr (apply j es) k)) none) (is-true (arity-fits j es) h)
 list-closes paren j es k h = ap (λ x. cond x (some (have-expr (apply j es) k)) none) (is-true (arity-fits j es) h)
+
 pub list-closes-empty : (b : Bracket) (j : Operation) (acc : Snoc Expr) (k : ExprStack) → T (more-if-begun acc no-e) → start-expr (in-list b j acc k) (class-of (closing b)) ≡ close-list b b j (exprs-of acc no-e) k
 list-closes-empty brace j none-yet k h = refl
 list-closes-empty paren j none-yet k h = refl
 list-closes-empty b j (snoc acc e) k h = absurd h
+
 pub list-closes-last : (b : Bracket) (j : Operation) (acc : Snoc Expr) (e : Expr) (k : ExprStack) → after-expr e (in-list b j acc k) (class-of (closing b)) ≡ close-list b b j (exprs-of acc (and-e e no-e)) k
 list-closes-last brace j acc e k = refl
 list-closes-last paren j acc e k = refl
+
 pub closing-follows : (b : Bracket) → T (follows 0 (class-of (closing b)))
 closing-follows brace = tt
 closing-follows paren = tt
 
 pub reads-binary : (k : ExprStack) (n m : ℕ) (j : Operation) (s t ws : List Name) (v w : Name) (a b : Expr) → class-of v ≡ c-operator n m j →
-  run (want-expr k) (s ++ (v ∷ (t ++ (w ∷ ws)))) ≡ then-run (after-expr a k (class-of v)) (t ++ (w ∷ ws)) →
-  reduce n a k ≡ reduced a k → shift m j a k ≡ some (want-expr (operand m j a k)) →
-  run (want-expr (operand m j a k)) (t ++ (w ∷ ws)) ≡ then-run (after-expr b (operand m j a k) (class-of w)) ws →
-  T (follows m (class-of w)) →
-  run (want-expr k) ((s ++ (v ∷ t)) ++ (w ∷ ws)) ≡ then-run (after-expr (binary j a b) k (class-of w)) ws
+    run (want-expr k) (s ++ (v ∷ (t ++ (w ∷ ws)))) ≡ then-run (after-expr a k (class-of v)) (t ++ (w ∷ ws)) →
+    reduce n a k ≡ reduced a k → shift m j a k ≡ some (want-expr (operand m j a k)) →
+    run (want-expr (operand m j a k)) (t ++ (w ∷ ws)) ≡ then-run (after-expr b (operand m j a k) (class-of w)) ws →
+    T (follows m (class-of w)) →
+    run (want-expr k) ((s ++ (v ∷ t)) ++ (w ∷ ws)) ≡ then-run (after-expr (binary j a b) k (class-of w)) ws
 reads-binary k n m j s t ws v w a b is l stays pushes r f =
     ap (run (want-expr k)) (append-assoc s (v ∷ t) (w ∷ ws))
     ∙ l
@@ -61,6 +66,7 @@ reads-binary k n m j s t ws v w a b is l stays pushes r f =
     ∙ ap (λ o. then-run o (t ++ (w ∷ ws))) pushes
     ∙ r
     ∙ ap (λ o. then-run o ws) (after-operand m j a b k (class-of w) f)
+
 pub then-when : (x : Name) (st : State) (ws : List Name) → T (is-name x) → then-run (when (is-name x) st) ws ≡ run st ws
 then-when x st ws h = ap (λ b. then-run (when b st) ws) (is-true (is-name x) h)
 
@@ -69,17 +75,17 @@ mutual
   reads-expr (looser {n = n} l d) k c w f ws = reads-expr d k (fits-looser n k c) w (follows-looser n (class-of w) f) ws
   reads-expr (compare-e {s = s} {t = t} {a = a} {b = b} {w = v} {o = i} d o g) k c w f ws =
       reads-binary k 1 0 (operate i) s t ws v w a b (class-comparison o) (reads-expr d k (fits-looser 0 k c) v (follows-as 1 (class-comparison o) tt) (t ++ (w ∷ ws))) (reduce-stays 0 1 a k (omega arith) c)
-        (ap (λ (x : Bool). cond x none (some (want-expr (operand 0 (operate i) a k)))) (not-comparing k c))
-        (reads-expr g (operand 0 (operate i) a k) tt w (follows-looser 0 (class-of w) f) ws) f
+      (ap (λ (x : Bool). cond x none (some (want-expr (operand 0 (operate i) a k)))) (not-comparing k c))
+      (reads-expr g (operand 0 (operate i) a k) tt w (follows-looser 0 (class-of w) f) ws) f
   reads-expr (cons-e {s = s} {t = t} {a = a} {b = b} d g) k c w f ws =
       reads-binary k 2 1 make-pair s t ws double-colon w a b refl (reads-expr d k (fits-looser 1 k c) double-colon tt (t ++ (w ∷ ws))) (reduce-stays 1 2 a k (omega arith) c) refl
-        (reads-expr g (operand 1 make-pair a k) tt w f ws) f
+      (reads-expr g (operand 1 make-pair a k) tt w f ws) f
   reads-expr (sum-e {s = s} {t = t} {a = a} {b = b} {w = v} {o = i} d o g) k c w f ws =
       reads-binary k 2 2 (operate i) s t ws v w a b (class-sum o) (reads-expr d k c v (follows-as 2 (class-sum o) tt) (t ++ (w ∷ ws))) (reduce-stays 2 2 a k (omega arith) c) refl
-        (reads-expr g (operand 2 (operate i) a k) tt w (follows-looser 2 (class-of w) f) ws) f
+      (reads-expr g (operand 2 (operate i) a k) tt w (follows-looser 2 (class-of w) f) ws) f
   reads-expr (product-e {s = s} {t = t} {a = a} {b = b} {w = v} {o = i} d o g) k c w f ws =
       reads-binary k 3 3 (operate i) s t ws v w a b (class-product o) (reads-expr d k c v (follows-as 3 (class-product o) tt) (t ++ (w ∷ ws))) (reduce-stays 3 3 a k (omega arith) c) refl
-        (reads-expr g (operand 3 (operate i) a k) tt w (follows-looser 3 (class-of w) f) ws) f
+      (reads-expr g (operand 3 (operate i) a k) tt w (follows-looser 3 (class-of w) f) ws) f
   reads-expr (int-e {w = v} {n = n} h) k c w f ws = ap (λ t. then-run (start-expr k t) (w ∷ ws)) (class-number v n h)
   reads-expr (atom-e {x = x} h) k c w f ws = ap (λ (b : Bool). then-run (when b (have-expr (atom x) k)) (w ∷ ws)) (is-true (is-atom x) h)
   reads-expr (var-e {x = x} h) k c w f ws = ap (λ t. then-run (start-expr k t) (w ∷ ws)) (class-name x h) ∙ ap (λ o. then-run o ws) (name-is-variable 4 x k w f)
@@ -120,6 +126,7 @@ mutual
       ∙ (ap (run (want-statement none-yet (in-timeout cs e k))) (append-assoc u (close-brace ∷ []) (w ∷ ws)) ∙ reads-body i none-yet (in-timeout cs e k) (w ∷ ws)))))
   reads-expr (catch-e {s = s} d) k c w f ws =
       ap (run (want-statement none-yet (in-catch k))) (append-assoc s (close-brace ∷ []) (w ∷ ws)) ∙ reads-body d none-yet (in-catch k) (w ∷ ws)
+
   pub reads-exprs : {s : List Name} {es : Exprs} → ExprsOf s es → (b : Bracket) (j : Operation) (acc : Snoc Expr) (k : ExprStack) → T (more-if-begun acc es) → T (arity-fits j (exprs-of acc es)) → (ws : List Name) → run (want-expr (in-list b j acc k)) (s ++ (closing b ∷ ws)) ≡ run (have-expr (apply j (exprs-of acc es)) k) ws
   reads-exprs none-es b j acc k f r ws = ap (λ o. then-run o ws) (list-closes-empty b j acc k f ∙ list-closes b j (exprs-of acc no-e) k r)
   reads-exprs (one-es {s = s} {e = e} d) b j acc k f r ws =
@@ -127,6 +134,7 @@ mutual
   reads-exprs (more-es {s = s} {t = t} {e = e} d ds) b j acc k f r ws =
       ap (run (want-expr (in-list b j acc k))) (append-assoc s (comma ∷ t) (closing b ∷ ws))
       ∙ (reads-expr d (in-list b j acc k) tt comma tt (t ++ (closing b ∷ ws)) ∙ reads-exprs ds b j (snoc acc e) k tt r ws)
+
   pub reads-body : {s : List Name} {b : Body} → BodyOf s b → (acc : Snoc Statement) (k : BodyStack) (ws : List Name) → run (want-statement acc k) (s ++ (close-brace ∷ ws)) ≡ then-run (close-body (body-of acc b) k) ws
   reads-body (last-b {s = s} {e = e} d) acc k ws =
       statement-expr acc k s close-brace ws (pass-expr d 0 (close-brace ∷ ws)) ∙ reads-expr d (in-statement acc k) tt close-brace tt ws
@@ -140,6 +148,7 @@ mutual
       ∙ (reads-pattern d (before-equals acc k) equals tt ((t ++ (semicolon ∷ u)) ++ (close-brace ∷ ws))
       ∙ (ap (run (want-expr (in-binding p acc k))) (append-assoc t (semicolon ∷ u) (close-brace ∷ ws))
       ∙ (reads-expr g (in-binding p acc k) tt semicolon tt (u ++ (close-brace ∷ ws)) ∙ reads-body i (snoc acc (statement p e)) k ws))))
+
   pub reads-clauses : {s : List Name} {cs : Clauses} → ClausesOf s cs → (h : Owner) (acc : Snoc Arm) (k : ExprStack) (ws : List Name) → run (want-pattern (before-arrow h acc k)) (s ++ (close-brace ∷ ws)) ≡ run (close-clauses h (clauses-of acc cs) k) ws
   reads-clauses no-cs h acc k ws = refl
   reads-clauses (more-cs {s = s} {t = t} {u = u} {p = p} {b = b} d g i) h acc k ws =

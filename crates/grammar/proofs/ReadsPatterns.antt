@@ -26,6 +26,7 @@ abbrev pub more-patterns : Snoc Pattern → Patterns → Bool
 more-patterns none-yet ps = true
 more-patterns (snoc acc p) no-p = false
 more-patterns (snoc acc p) (and-p q ps) = true
+
 mutual
   pub reads-pattern : {n : ℕ} {s : List Name} {p : Pattern} → PatternAt n s p → (k : PatternStack) (w : Name) → T (follows-pattern n (class-of w)) → (ws : List Name) → run (want-pattern k) (s ++ (w ∷ ws)) ≡ then-run (after-pattern p k (class-of w)) ws
   reads-pattern (cons-x {s = s} {t = t} {p = p} {q = q} d g) k w f ws =
@@ -38,6 +39,7 @@ mutual
   reads-pattern (tuple-x {s = s} {ps = ps} d) k w f ws = ap (run (want-pattern (in-tuple none-yet k))) (append-assoc s (close-brace ∷ []) (w ∷ ws)) ∙ reads-patterns d none-yet k tt (w ∷ ws)
   reads-pattern nil-x k w f ws = refl
   reads-pattern (brackets-x {s = s} {p = p} d) k w f ws = ap (run (want-pattern (in-group k))) (append-assoc s (close-paren ∷ []) (w ∷ ws)) ∙ reads-pattern d (in-group k) close-paren tt (w ∷ ws)
+
   pub reads-patterns : {s : List Name} {ps : Patterns} → PatternsOf s ps → (acc : Snoc Pattern) (k : PatternStack) → T (more-patterns acc ps) → (ws : List Name) → run (want-pattern (in-tuple acc k)) (s ++ (close-brace ∷ ws)) ≡ run (have-pattern (p-tuple (patterns-of acc ps)) k) ws
   reads-patterns no-x none-yet k f ws = refl
   reads-patterns no-x (snoc acc p) k f ws = absurd f

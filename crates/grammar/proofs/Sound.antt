@@ -20,8 +20,8 @@ pub at-top-level-sound : {m : Modules} {v : List Name} → ModulesMade m v → (
 at-top-level-sound {v = v} made-no-module w = when-goes (same w k-module) (after-module no-module) _ (λ h. at-after-module made-no-module (ap (λ z. v ++ (z ∷ [])) (same-is w k-module h)))
 at-top-level-sound {m = m} {v = v} (made-module {m = l} {x = x} {acc = acc} a h f q) w =
     cond-goes (same w k-module) (some (after-module (in-module l x acc))) (when (same w k-fn) (after-fn (in-module l x acc))) _
-      (λ e. at-after-module (made-module a h f q) (ap (λ z. v ++ (z ∷ [])) (same-is w k-module e)))
-      (when-goes (same w k-fn) (after-fn (in-module l x acc)) _ (λ e. at-after-fn (made-module a h f q) (ap (λ z. v ++ (z ∷ [])) (same-is w k-fn e))))
+    (λ e. at-after-module (made-module a h f q) (ap (λ z. v ++ (z ∷ [])) (same-is w k-module e)))
+    (when-goes (same w k-fn) (after-fn (in-module l x acc)) _ (λ e. at-after-fn (made-module a h f q) (ap (λ z. v ++ (z ∷ [])) (same-is w k-fn e))))
 
 pub step-sound : {st : State} {v : List Name} → StateMade st v → (w : Name) (ws : List Name) → Goes (step st w ws) (v ++ (w ∷ []))
 step-sound (at-want-expr k) w ws = start-expr-sound k w (class-of w) (class-tells w)
@@ -33,8 +33,8 @@ step-sound (at-after-bracket {k = k} {u = u} kk q) w ws = when-goes (same w clos
 step-sound (at-after-spawn {k = k} {u = u} kk q) w ws = when-goes (is-name w) (after-spawn-name w k) _ (λ g. at-after-spawn-name kk g (further u (k-spawn ∷ []) q w w refl))
 step-sound (at-after-spawn-name {k = k} {u = u} {x = x} kk h q) w ws =
     cond-goes (same w open-paren) (some (want-expr (in-list paren (spawn x) none-yet k))) (when (same w colon) (after-spawn-colon x k)) _
-      (λ g. at-want-expr (made-list kk (open-spawn h) made-none (further u (k-spawn ∷ x ∷ []) q w open-paren (same-is w open-paren g))))
-      (when-goes (same w colon) (after-spawn-colon x k) _ (λ g. at-after-spawn-colon kk h (further u (k-spawn ∷ x ∷ []) q w colon (same-is w colon g))))
+    (λ g. at-want-expr (made-list kk (open-spawn h) made-none (further u (k-spawn ∷ x ∷ []) q w open-paren (same-is w open-paren g))))
+    (when-goes (same w colon) (after-spawn-colon x k) _ (λ g. at-after-spawn-colon kk h (further u (k-spawn ∷ x ∷ []) q w colon (same-is w colon g))))
 step-sound (at-after-spawn-colon {k = k} {u = u} {x = x} kk h q) w ws = when-goes (is-name w) (want-operands (far-spawn x w) k) _ (λ g. at-want-operands (k-spawn ∷ x ∷ colon ∷ w ∷ []) kk (open-far-spawn h g) (further u (k-spawn ∷ x ∷ colon ∷ []) q w w refl))
 step-sound (at-after-receive {k = k} {u = u} kk q) w ws = when-goes (same w open-brace) (want-pattern (before-arrow of-receive none-yet k)) _ (λ g. at-want-pattern (made-before-arrow kk made-of-receive made-none (further u (k-receive ∷ []) q w open-brace (same-is w open-brace g))))
 step-sound (at-after-clauses {cs = cs} {k = k} {u = u} {s = s} kk c q) w ws = subst (Goes (clauses-end cs k w)) (sym (further u (k-receive ∷ open-brace ∷ (s ++ (close-brace ∷ []))) q w w refl)) (clauses-end-sound kk cs s c w)
@@ -42,7 +42,7 @@ step-sound (at-after-catch {k = k} {u = u} kk q) w ws = when-goes (same w open-b
 step-sound (at-have-expr {k = k} {e = e} {u = u} {s = s} kk d q) w ws = subst (Goes (after-expr e k (class-of w))) (sym (further u s q w w refl)) (after-expr-sound kk e s d w (class-of w) (class-tells w))
 step-sound {v = v} (at-want-statement {acc = acc} {k = k} {u = u} kk a q) w ws =
     cond-goes (binds 0 (w ∷ ws)) (start-pattern (before-equals acc k) (class-of w)) (start-expr (in-statement acc k) (class-of w)) _
-      (λ h. start-pattern-sound (made-before-equals kk a q) w (class-of w) (class-tells w)) (start-expr-sound (made-statement kk a q) w (class-of w) (class-tells w))
+    (λ h. start-pattern-sound (made-before-equals kk a q) w (class-of w) (class-tells w)) (start-expr-sound (made-statement kk a q) w (class-of w) (class-tells w))
 step-sound (at-want-pattern k) w ws = start-pattern-sound k w (class-of w) (class-tells w)
 step-sound (at-after-pattern-quote {k = k} {u = u} kk q) w ws = when-goes (is-atom w) (have-pattern (p-atom w) k) _ (λ g. at-have-pattern kk (atom-x g) (further u (quote ∷ []) q w w refl))
 step-sound (at-after-pattern-bracket {k = k} {u = u} kk q) w ws = when-goes (same w close-bracket) (have-pattern p-nil k) _ (λ g. at-have-pattern kk nil-x (further u (open-bracket ∷ []) q w close-bracket (same-is w close-bracket g)))
@@ -56,14 +56,14 @@ step-sound (at-after-fn {m = m} {u = u} mm q) w ws = when-goes (is-name w) (afte
 step-sound (at-after-fn-name {m = m} {u = u} {x = x} mm h q) w ws = when-goes (same w open-paren) (want-parameter x none-yet m) _ (λ g. at-want-parameter mm h made-none (further u (k-fn ∷ x ∷ []) q w open-paren (same-is w open-paren g)))
 step-sound (at-want-parameter {m = m} {u = u} {x = x} mm h made-none q) w ws =
     cond-goes (same w close-paren) (some (after-parameters x [] m)) (when (is-name w) (after-parameter x (snoc none-yet w) m)) _
-      (λ g. at-after-parameters mm h no-n (further u (k-fn ∷ x ∷ open-paren ∷ []) q w close-paren (same-is w close-paren g)))
-      (when-goes (is-name w) (after-parameter x (snoc none-yet w) m) _ (λ g. at-after-parameter mm h made-none g (further u (k-fn ∷ x ∷ open-paren ∷ []) q w w refl)))
+    (λ g. at-after-parameters mm h no-n (further u (k-fn ∷ x ∷ open-paren ∷ []) q w close-paren (same-is w close-paren g)))
+    (when-goes (is-name w) (after-parameter x (snoc none-yet w) m) _ (λ g. at-after-parameter mm h made-none g (further u (k-fn ∷ x ∷ open-paren ∷ []) q w w refl)))
 step-sound (at-want-parameter {m = m} {acc = a} {u = u} {s = s} {x = x} mm h (made-more {xs = acc} {x = y} n g e) q) w ws =
     when-goes (is-name w) (after-parameter x (snoc (snoc acc y) w) m) _ (λ i. at-after-parameter mm h (made-more n g e) i (further u (k-fn ∷ x ∷ open-paren ∷ s) q w w refl))
 step-sound (at-after-parameter {m = m} {acc = acc} {u = u} {s = s} {x = x} {y = y} mm h n g q) w ws =
     cond-goes (same w comma) (some (want-parameter x (snoc acc y) m)) (when (same w close-paren) (after-parameters x (list-of acc (y ∷ [])) m)) _
-      (λ i. at-want-parameter mm h (made-more n (parameter g refl) refl) (further u (k-fn ∷ x ∷ open-paren ∷ (s ++ (y ∷ []))) q w comma (same-is w comma i) ∙ simp append-assoc))
-      (when-goes (same w close-paren) (after-parameters x (list-of acc (y ∷ [])) m) _ (λ i. at-after-parameters mm h (names-made n (y ∷ []) (y ∷ []) tt (one-n g)) (further u (k-fn ∷ x ∷ open-paren ∷ (s ++ (y ∷ []))) q w close-paren (same-is w close-paren i))))
+    (λ i. at-want-parameter mm h (made-more n (parameter g refl) refl) (further u (k-fn ∷ x ∷ open-paren ∷ (s ++ (y ∷ []))) q w comma (same-is w comma i) ∙ simp append-assoc))
+    (when-goes (same w close-paren) (after-parameters x (list-of acc (y ∷ [])) m) _ (λ i. at-after-parameters mm h (names-made n (y ∷ []) (y ∷ []) tt (one-n g)) (further u (k-fn ∷ x ∷ open-paren ∷ (s ++ (y ∷ []))) q w close-paren (same-is w close-paren i))))
 step-sound (at-after-parameters {m = m} {u = u} {s = s} {ps = ps} {x = x} mm h n q) w ws =
     when-goes (same w open-brace) (want-statement none-yet (in-function x ps m)) _ (λ i. at-want-statement (made-function mm h n refl) made-none (further u (k-fn ∷ x ∷ open-paren ∷ (s ++ (close-paren ∷ []))) q w open-brace (same-is w open-brace i) ∙ simp (append-assoc, append-nil)))
 

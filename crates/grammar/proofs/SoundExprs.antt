@@ -1,24 +1,25 @@
 -- What the machine does with expressions keeps to the grammar: if tokens made the stack, and a token takes the machine on,
 -- then these tokens and that one made the new state. Applying a waiting operator is a rule of the grammar, since what waits
 -- binds less tightly than what it waits for.
+use mathlib.Core.Option.{none}
 use mathlib.Core.Path.{_≡_, refl, sym, ap, subst, _∙_}
 use mathlib.Core.Bool.{Bool, true, false, cond}
 use mathlib.Core.List.{List, [], _∷_, _++_, append-assoc, append-nil}
 use mathlib.Core.Option.{some}
 use Prim.Native.Nat.{ℕ, zero, suc, _≤_, _<_}
 use native.Mathlib.Omega.{arith}
-use lib.Dec.{eqb, ltb, leb, T, leb→le, ltb→lt, lt→ltb}
-use borrow.Author.Tests.{leb-false, eq-eqb}
+use lib.Dec.{ltb, leb, T, leb→le, ltb→lt, lt→ltb}
+use borrow.Author.Tests.{leb-false}
 use Rattle.meaning.specs.Basics.{Name, same}
 use Rattle.meaning.specs.Syntax.{Operation, call, Expr, var, apply, receive, Exprs, no-e, and-e, Body, last, Clauses}
 use Rattle.meaning.specs.Grammar.{k-case, k-receive, k-until, open-paren, close-paren, open-brace, close-brace, comma, semicolon, colon, is-name, ExprAt, looser, compare-e, cons-e, sum-e, product-e, int-e, var-e, brackets-e, receive-e, until-e, catch-e, ExprsOf, none-es, one-es, BodyOf, last-b, ClausesOf, function-x}
 use Rattle.grammar.specs.Classes.{Bracket, paren, brace, closing, s-quote, s-bracket, s-underscore, s-case, s-receive, s-catch, s-spawn, s-comma, s-semicolon, s-equals, s-arrow, Class, c-number, c-name, c-operator, c-open, c-close, c-builtin, c-start, c-separate, c-other, class-of}
-use Rattle.grammar.specs.Expressions.{binary, Reduced, reduced, reduce, shift, arity-fits, close-list, close-body, close-expr, next-expr, next-statement, open-block, close-empty, start-expr, after-expr}
+use Rattle.grammar.specs.Expressions.{comparing, binary, Reduced, reduced, reduce, shift, arity-fits, close-list, close-body, close-expr, next-expr, next-statement, open-block, close-empty, start-expr, after-expr}
 use Rattle.grammar.specs.Machine.{name-ends, clauses-end}
-use Rattle.grammar.specs.Stack.{none-yet, ExprStack, operand, in-parens, in-list, in-case, in-until, in-statement, in-binding, BodyStack, want-expr, have-expr, after-colon}
-use Rattle.meaning.proofs.Splits.{same-is}
+use Rattle.grammar.specs.Stack.{none-yet, ExprStack, operand, in-list, in-until, BodyStack, want-expr, have-expr, after-colon}
+use Rattle.meaning.proofs.Splits.{cond-all, same-is}
 use Rattle.grammar.proofs.Tokens.{Joins, comparison, pairing, sum, product, left-level, right-level, Tells, class-tells}
-use Rattle.grammar.proofs.Levels.{ceiling, below, fits}
+use Rattle.grammar.proofs.Levels.{may-compare, ceiling, below, fits}
 use Rattle.grammar.proofs.Made.{made-none, made-more, argument, plain-statement, binding-statement, clause-made, made-no-module, made-module, exprs-made, body-made, made-of-case, OperationMade, open-tuple, open-call, open-builtin, operation-closes, ExprStackMade, made-operand, made-parens, made-list, made-case, made-until, made-statement, made-binding, BodyStackMade, made-arm, made-timeout, made-catch, made-function, made-before-arrow, at-want-expr, at-after-name, at-after-colon, at-want-operands, at-after-quote, at-after-bracket, at-after-spawn, at-after-receive, at-after-catch, at-have-expr, at-want-statement, at-want-pattern, at-top, Goes, when-goes, cond-goes, behind, reshape}
 
 -- an expression of a level is one of any looser level
@@ -31,6 +32,7 @@ loosen {s} {e} (suc n) m h l d = way (λ q. loosen n m q (omega arith) (looser (
   where
     top-is : leb m n ≡ false → suc n ≡ m
     top-is q = omega (arith, leb-false m n q)
+
     way : (m ≤ n → ExprAt m s e) → (b : Bool) → leb m n ≡ b → ExprAt m s e
     way r true q = r (leb→le m n (subst T (sym q) tt))
     way r false q = subst (λ x. ExprAt x s e) (top-is q) d
@@ -72,14 +74,17 @@ pub record ReducedAt (t : ℕ) (h : Reduced) (v : List Name) : Type 0 where
   pub expr-at : ExprAt t s (h .expr)
   pub is : v ≡ u ++ s
   pub below : T (below t (h .stack))
+
 pub reduce-sound : {k : ExprStack} {u : List Name} → ExprStackMade k u → (t n : ℕ) (e : Expr) (s v : List Name) → ExprAt n s e → T (fits n k) → t ≤ n → n ≤ 4 → v ≡ u ++ s → ReducedAt t (reduce t e k) v
 reduce-sound (made-operand {m = m} {j = j} {a = a} {k = k} {u = u1} {s = s1} {w = w} k1 c1 d1 o q) t n e s v d c l l4 is =
     way (λ x. reduce-sound k1 t m (binary j a e) (s1 ++ (w ∷ s)) v made c1 x (omega (arith, tightness-at-most o)) (is ∙ (ap (λ z. z ++ s) q ∙ shape))) (leb t m) refl
   where
     made : ExprAt m (s1 ++ (w ∷ s)) (binary j a e)
     made = binary-at o d1 (loosen n (right-level m) (right-level-at-most o n c) l4 d)
+
     shape : (u1 ++ (s1 ++ (w ∷ []))) ++ s ≡ u1 ++ (s1 ++ (w ∷ s))
     shape = simp append-assoc
+
     way : (t ≤ m → ReducedAt t (reduce t (binary j a e) k) v) → (b : Bool) → leb t m ≡ b → ReducedAt t (cond b (reduce t (binary j a e) k) (reduced e (operand m j a k))) v
     way r true x = r (leb→le t m (subst T (sym x) tt))
     way r false x = record { u = _; s = s; stack-made = made-operand k1 c1 d1 o q; expr-at = loosen n t l l4 d; is = is; below = lt→ltb m t (leb-false t m x) }
@@ -90,19 +95,14 @@ reduce-sound (made-until k1 x q) t n e s v d c l l4 is = record { u = _; s = s; 
 reduce-sound (made-statement k1 x q) t n e s v d c l l4 is = record { u = _; s = s; stack-made = made-statement k1 x q; expr-at = loosen n t l l4 d; is = is; below = tt }
 reduce-sound (made-binding k1 x y q) t n e s v d c l l4 is = record { u = _; s = s; stack-made = made-binding k1 x y q; expr-at = loosen n t l l4 d; is = is; below = tt }
 
-pub shift-sound : {k : ExprStack} {u : List Name} → ExprStackMade k u → {m : ℕ} {j : Operation} {w : Name} → Joins m w j → (e : Expr) (s v : List Name) → ExprAt (left-level m) s e → T (below (left-level m) k) → v ≡ u ++ (s ++ (w ∷ [])) → Goes (shift m j e k) v
-shift-sound {k} {u} st {j = j} {w = w} (comparison o) e s v d b is = way k st b
-  where
-    none-lt : (n : ℕ) → n < 1 → eqb n 0 ≡ true
-    none-lt n h = eq-eqb n 0 (omega arith)
-    way : (k : ExprStack) → ExprStackMade k u → T (below 1 k) → Goes (shift 0 j e k) v
-    way (operand m i a k) st b = rw (none-lt m (ltb→lt m 1 b)) tt
-    way (in-parens k) st b = at-want-expr (made-operand st tt d (comparison o) is)
-    way (in-list c i es k) st b = at-want-expr (made-operand st tt d (comparison o) is)
-    way (in-case k) st b = at-want-expr (made-operand st tt d (comparison o) is)
-    way (in-until cs k) st b = at-want-expr (made-operand st tt d (comparison o) is)
-    way (in-statement acc k) st b = at-want-expr (made-operand st tt d (comparison o) is)
-    way (in-binding p acc k) st b = at-want-expr (made-operand st tt d (comparison o) is)
+-- behind an operator its right operand is waited for
+pub shift-sound :
+    {k : ExprStack} {u : List Name} → ExprStackMade k u → {m : ℕ} {j : Operation} {w : Name} → Joins m w j →
+    (e : Expr) (s v : List Name) → ExprAt (left-level m) s e → T (below (left-level m) k) → v ≡ u ++ (s ++ (w ∷ [])) →
+    Goes (shift m j e k) v
+shift-sound {k} st {j = j} (comparison o) e s v d b is =
+    cond-all (λ x. Goes x v) (comparing k) none (some (want-expr (operand 0 j e k))) (λ h. tt)
+    (λ h. at-want-expr (made-operand st (may-compare k b h) d (comparison o) is))
 shift-sound st pairing e s v d b is = at-want-expr (made-operand st b d pairing is)
 shift-sound st (sum o) e s v d b is = at-want-expr (made-operand st b d (sum o) is)
 shift-sound st (product o) e s v d b is = at-want-expr (made-operand st b d (product o) is)
@@ -143,6 +143,7 @@ next-expr-sound (made-case k q) e s v d is = tt
 next-expr-sound (made-until k x q) e s v d is = tt
 next-expr-sound (made-statement k x q) e s v d is = tt
 next-expr-sound (made-binding k x y q) e s v d is = tt
+
 pub next-statement-sound : {k : ExprStack} {u : List Name} → ExprStackMade k u → (e : Expr) (s v : List Name) → ExprAt 0 s e → v ≡ u ++ (s ++ (semicolon ∷ [])) → Goes (next-statement e k) v
 next-statement-sound (made-operand k c g o q) e s v d is = tt
 next-statement-sound (made-parens k q) e s v d is = tt
@@ -151,6 +152,7 @@ next-statement-sound (made-case k q) e s v d is = tt
 next-statement-sound (made-until k x q) e s v d is = tt
 next-statement-sound (made-statement {u = u} {s = x} k a q) e s v d is = at-want-statement k (made-more a (plain-statement d refl) refl) (is ∙ (behind q (s ++ (semicolon ∷ [])) ∙ simp append-assoc))
 next-statement-sound (made-binding {u = u} {s = x} {y = y} k a p q) e s v d is = at-want-statement k (made-more a (binding-statement p d refl) refl) (is ∙ (behind q (s ++ (semicolon ∷ [])) ∙ simp append-assoc))
+
 pub open-block-sound : {k : ExprStack} {u : List Name} → ExprStackMade k u → (e : Expr) (s v : List Name) → ExprAt 0 s e → v ≡ u ++ (s ++ (open-brace ∷ [])) → Goes (open-block e k) v
 open-block-sound (made-operand k c g o q) e s v d is = tt
 open-block-sound (made-parens k q) e s v d is = tt
@@ -159,6 +161,7 @@ open-block-sound (made-case {u = u} k q) e s v d is = at-want-pattern (made-befo
 open-block-sound (made-until {u = u} {s = x} k c q) e s v d is = at-want-statement (made-timeout k c d refl) made-none (is ∙ (behind q (s ++ (open-brace ∷ [])) ∙ simp (append-assoc, append-nil)))
 open-block-sound (made-statement k x q) e s v d is = tt
 open-block-sound (made-binding k x y q) e s v d is = tt
+
 pub close-empty-sound : {k : ExprStack} {u : List Name} → ExprStackMade k u → (b : Bracket) (v : List Name) → v ≡ u ++ (closing b ∷ []) → Goes (close-empty b k) v
 close-empty-sound (made-operand k c g o q) b v is = tt
 close-empty-sound (made-parens k q) b v is = tt
@@ -177,6 +180,7 @@ fits-tightest (made-case k q) = tt
 fits-tightest (made-until k x q) = tt
 fits-tightest (made-statement k x q) = tt
 fits-tightest (made-binding k x y q) = tt
+
 pub left-level-at-most : {m : ℕ} {w : Name} {j : Operation} → Joins m w j → left-level m ≤ 4
 left-level-at-most (comparison o) = omega arith
 left-level-at-most pairing = omega arith
@@ -233,14 +237,14 @@ start-expr-sound {k} {u} st w c-other q = tt
 pub name-ends-sound : {k : ExprStack} {u : List Name} → ExprStackMade k u → (x : Name) → T (is-name x) → (w : Name) → Goes (name-ends x k w) (u ++ (x ∷ w ∷ []))
 name-ends-sound {k} {u} st x h w =
     cond-goes (same w open-paren) (some (want-expr (in-list paren (call x) none-yet k))) (cond (same w colon) (some (after-colon x k)) (after-expr (var x) k (class-of w))) _
-      (λ e. at-want-expr (made-list st (open-call h) made-none (ap (λ z. u ++ (x ∷ z ∷ [])) (same-is w open-paren e))))
-      (cond-goes (same w colon) (some (after-colon x k)) (after-expr (var x) k (class-of w)) _
-        (λ e. at-after-colon st h (ap (λ z. u ++ (x ∷ z ∷ [])) (same-is w colon e)))
-        (after-expr-sound st (var x) (x ∷ []) (var-e h) w (class-of w) (class-tells w)))
+    (λ e. at-want-expr (made-list st (open-call h) made-none (ap (λ z. u ++ (x ∷ z ∷ [])) (same-is w open-paren e))))
+    (cond-goes (same w colon) (some (after-colon x k)) (after-expr (var x) k (class-of w)) _
+    (λ e. at-after-colon st h (ap (λ z. u ++ (x ∷ z ∷ [])) (same-is w colon e)))
+    (after-expr-sound st (var x) (x ∷ []) (var-e h) w (class-of w) (class-tells w)))
 
 -- behind the clauses of a receive: until, or what may follow an expression
 pub clauses-end-sound : {k : ExprStack} {u : List Name} → ExprStackMade k u → (cs : Clauses) (s : List Name) → ClausesOf s cs → (w : Name) → Goes (clauses-end cs k w) (u ++ ((k-receive ∷ open-brace ∷ (s ++ (close-brace ∷ []))) ++ (w ∷ [])))
 clauses-end-sound {k} {u} st cs s d w =
     cond-goes (same w k-until) (some (want-expr (in-until cs k))) (after-expr (receive cs) k (class-of w)) _
-      (λ e. at-want-expr (made-until st d (ap (λ z. u ++ (k-receive ∷ open-brace ∷ z)) (append-assoc s (close-brace ∷ []) (w ∷ []) ∙ ap (λ z. s ++ (close-brace ∷ z ∷ [])) (same-is w k-until e)))))
-      (after-expr-sound st (receive cs) (k-receive ∷ open-brace ∷ (s ++ (close-brace ∷ []))) (receive-e d) w (class-of w) (class-tells w))
+    (λ e. at-want-expr (made-until st d (ap (λ z. u ++ (k-receive ∷ open-brace ∷ z)) (append-assoc s (close-brace ∷ []) (w ∷ []) ∙ ap (λ z. s ++ (close-brace ∷ z ∷ [])) (same-is w k-until e)))))
+    (after-expr-sound st (receive cs) (k-receive ∷ open-brace ∷ (s ++ (close-brace ∷ []))) (receive-e d) w (class-of w) (class-tells w))

@@ -14,12 +14,13 @@ use Rattle.grammar.proofs.Tokens.{Joins, comparison, pairing, sum, product, Te
 use Rattle.grammar.proofs.Made.{made-none, made-more, element, patterns-made, clauses-made, OwnerMade, made-of-case, made-of-receive, ExprStackMade, made-binding, PatternStackMade, made-cons, made-group, made-tuple, made-before-equals, made-before-arrow, StateMade, at-want-expr, at-after-clauses, at-have-expr, at-want-pattern, at-after-pattern-quote, at-after-pattern-bracket, at-have-pattern, at-after-arrow, Goes, when-goes, behind, reshape}
 
 pub reduce-pattern-sound : {k : PatternStack} {u : List Name} → PatternStackMade k u → (p : Pattern) (s v : List Name) (F : Pattern → PatternStack → Option State) (r : List Name) → PatternAt 0 s p → v ≡ u ++ s →
-  ((k : PatternStack) (u s : List Name) (p : Pattern) → PatternStackMade k u → PatternAt 0 s p → v ≡ u ++ s → Goes (F p k) r) → Goes (reduce-pattern p k F) r
+    ((k : PatternStack) (u s : List Name) (p : Pattern) → PatternStackMade k u → PatternAt 0 s p → v ≡ u ++ s → Goes (F p k) r) → Goes (reduce-pattern p k F) r
 reduce-pattern-sound (made-cons {p = a} {u = u} {s = x} k g q) p s v F r d is f = reduce-pattern-sound k (p-cons a p) (x ++ (double-colon ∷ s)) v F r (cons-x g d) (is ∙ (behind q s ∙ simp append-assoc)) f
 reduce-pattern-sound (made-group k q) p s v F r d is f = f _ _ s p (made-group k q) d is
 reduce-pattern-sound (made-tuple k a q) p s v F r d is f = f _ _ s p (made-tuple k a q) d is
 reduce-pattern-sound (made-before-equals k a q) p s v F r d is f = f _ _ s p (made-before-equals k a q) d is
 reduce-pattern-sound (made-before-arrow k h a q) p s v F r d is f = f _ _ s p (made-before-arrow k h a q) d is
+
 pub close-pattern-sound : {k : PatternStack} {u : List Name} → PatternStackMade k u → (b : Bracket) (p : Pattern) (s v : List Name) → PatternAt 0 s p → v ≡ u ++ (s ++ (closing b ∷ [])) → Goes (close-pattern b p k) v
 close-pattern-sound (made-cons k g q) b p s v d is = tt
 close-pattern-sound (made-group k q) brace p s v d is = tt
@@ -28,28 +29,33 @@ close-pattern-sound (made-tuple {u = u} {s = x} k a q) brace p s v d is = at-hav
 close-pattern-sound (made-tuple k a q) paren p s v d is = tt
 close-pattern-sound (made-before-equals k a q) b p s v d is = tt
 close-pattern-sound (made-before-arrow k h a q) b p s v d is = tt
+
 pub next-pattern-sound : {k : PatternStack} {u : List Name} → PatternStackMade k u → (p : Pattern) (s v : List Name) → PatternAt 0 s p → v ≡ u ++ (s ++ (comma ∷ [])) → Goes (next-pattern p k) v
 next-pattern-sound (made-cons k g q) p s v d is = tt
 next-pattern-sound (made-group k q) p s v d is = tt
 next-pattern-sound (made-tuple {u = u} {s = x} k a q) p s v d is = at-want-pattern (made-tuple k (made-more a (element d refl) refl) (is ∙ (behind q (s ++ (comma ∷ [])) ∙ simp append-assoc)))
 next-pattern-sound (made-before-equals k a q) p s v d is = tt
 next-pattern-sound (made-before-arrow k h a q) p s v d is = tt
+
 pub bind-pattern-sound : {k : PatternStack} {u : List Name} → PatternStackMade k u → (p : Pattern) (s v : List Name) → PatternAt 0 s p → v ≡ u ++ (s ++ (equals ∷ [])) → Goes (bind-pattern p k) v
 bind-pattern-sound (made-cons k g q) p s v d is = tt
 bind-pattern-sound (made-group k q) p s v d is = tt
 bind-pattern-sound (made-tuple k a q) p s v d is = tt
 bind-pattern-sound (made-before-equals {u = u} {s = x} k a q) p s v d is = at-want-expr (made-binding k a d (is ∙ (behind q (s ++ (equals ∷ [])) ∙ append-assoc u x (s ++ (equals ∷ [])))))
 bind-pattern-sound (made-before-arrow k h a q) p s v d is = tt
+
 pub begin-arm-sound : {k : PatternStack} {u : List Name} → PatternStackMade k u → (p : Pattern) (s v : List Name) → PatternAt 0 s p → v ≡ u ++ (s ++ (arrow ∷ [])) → Goes (begin-arm p k) v
 begin-arm-sound (made-cons k g q) p s v d is = tt
 begin-arm-sound (made-group k q) p s v d is = tt
 begin-arm-sound (made-tuple k a q) p s v d is = tt
 begin-arm-sound (made-before-equals k a q) p s v d is = tt
 begin-arm-sound (made-before-arrow {u = u} {o = o} {s = x} k h a q) p s v d is = at-after-arrow k h a d (is ∙ (behind q (s ++ (arrow ∷ [])) ∙ simp append-assoc))
+
 -- clauses are read to their }
 pub close-clauses-sound : {k : ExprStack} {u : List Name} → ExprStackMade k u → {h : Owner} {o : List Name} → OwnerMade h o → (s v : List Name) (cs : Clauses) → ClausesOf s cs → v ≡ u ++ (o ++ (s ++ (close-brace ∷ []))) → StateMade (close-clauses h cs k) v
 close-clauses-sound {u = u} k (made-of-case {s = x} d q) s v cs c is = at-have-expr k (case-e d c) (is ∙ ap (λ z. u ++ z) (behind q (s ++ (close-brace ∷ [])) ∙ simp append-assoc))
 close-clauses-sound k made-of-receive s v cs c is = at-after-clauses k c is
+
 pub close-without-sound : {k : PatternStack} {u : List Name} → PatternStackMade k u → (b : Bracket) (v : List Name) → v ≡ u ++ (closing b ∷ []) → Goes (close-without b k) v
 close-without-sound (made-cons k g q) b v is = tt
 close-without-sound (made-group k q) b v is = tt
@@ -59,6 +65,7 @@ close-without-sound (made-tuple k (made-more a d p) q) b v is = tt
 close-without-sound (made-before-equals k a q) b v is = tt
 close-without-sound (made-before-arrow {acc = acc} {u = u} {o = o} {s = x} k h a q) brace v is = close-clauses-sound k h x v (clauses-of acc no-c) (subst (λ z. ClausesOf z (clauses-of acc no-c)) (append-nil x) (clauses-made a [] no-c no-cs)) (is ∙ (behind q (close-brace ∷ []) ∙ simp append-assoc))
 close-without-sound (made-before-arrow k h a q) paren v is = tt
+
 -- a token where a pattern may begin, by its class
 pub start-pattern-sound : {k : PatternStack} {u : List Name} → PatternStackMade k u → (w : Name) (c : Class) → Tells w c → Goes (start-pattern k c) (u ++ (w ∷ []))
 start-pattern-sound {k} {u} st w (c-number n) q = at-have-pattern st (int-x q) refl
@@ -92,17 +99,17 @@ after-pattern-sound {k} {u} st p s d w (c-operator t m o) q = when-goes (is-pair
 after-pattern-sound {k} {u} st p s d w (c-open b) q = tt
 after-pattern-sound {k} {u} st p s d w (c-close b) q =
     reduce-pattern-sound st p s (u ++ s) _ _ (plain-x d) refl
-      (λ k' u' s' p' st' d' is'. close-pattern-sound st' b p' s' _ d' (reshape u s u' s' w is' ∙ ap (λ z. u' ++ (s' ++ (z ∷ []))) q))
+    (λ k' u' s' p' st' d' is'. close-pattern-sound st' b p' s' _ d' (reshape u s u' s' w is' ∙ ap (λ z. u' ++ (s' ++ (z ∷ []))) q))
 after-pattern-sound {k} {u} st p s d w (c-builtin f) q = tt
 after-pattern-sound {k} {u} st p s d w (c-start i) q = tt
 after-pattern-sound {k} {u} st p s d w (c-separate s-comma) q =
     reduce-pattern-sound st p s (u ++ s) _ _ (plain-x d) refl
-      (λ k' u' s' p' st' d' is'. next-pattern-sound st' p' s' _ d' (reshape u s u' s' w is' ∙ ap (λ z. u' ++ (s' ++ (z ∷ []))) q))
+    (λ k' u' s' p' st' d' is'. next-pattern-sound st' p' s' _ d' (reshape u s u' s' w is' ∙ ap (λ z. u' ++ (s' ++ (z ∷ []))) q))
 after-pattern-sound {k} {u} st p s d w (c-separate s-semicolon) q = tt
 after-pattern-sound {k} {u} st p s d w (c-separate s-equals) q =
     reduce-pattern-sound st p s (u ++ s) _ _ (plain-x d) refl
-      (λ k' u' s' p' st' d' is'. bind-pattern-sound st' p' s' _ d' (reshape u s u' s' w is' ∙ ap (λ z. u' ++ (s' ++ (z ∷ []))) q))
+    (λ k' u' s' p' st' d' is'. bind-pattern-sound st' p' s' _ d' (reshape u s u' s' w is' ∙ ap (λ z. u' ++ (s' ++ (z ∷ []))) q))
 after-pattern-sound {k} {u} st p s d w (c-separate s-arrow) q =
     reduce-pattern-sound st p s (u ++ s) _ _ (plain-x d) refl
-      (λ k' u' s' p' st' d' is'. begin-arm-sound st' p' s' _ d' (reshape u s u' s' w is' ∙ ap (λ z. u' ++ (s' ++ (z ∷ []))) q))
+    (λ k' u' s' p' st' d' is'. begin-arm-sound st' p' s' _ d' (reshape u s u' s' w is' ∙ ap (λ z. u' ++ (s' ++ (z ∷ []))) q))
 after-pattern-sound {k} {u} st p s d w c-other q = tt

@@ -3,9 +3,8 @@
 use mathlib.Core.Path.{_≡_, refl, sym, ap, subst, _∙_}
 use mathlib.Core.Bool.{Bool, true, false, _&&_, _||_, not, cond}
 use mathlib.Core.List.{List, [], _∷_}
-use mathlib.Core.Option.{Option, some, none}
+use mathlib.Core.Option.{some, none}
 use Prim.Native.Nat.{ℕ, zero, suc, _+_, _-_, _*_}
-use native.Mathlib.Omega.{arith}
 use lib.ListN.{length}
 use lib.Dec.{eqb, leb, T, eqb→eq}
 use Rattle.meaning.specs.Basics.{opt, Name, same, listed}
@@ -31,7 +30,7 @@ pub no-number : (w : Name) → T (not (digit-first w)) → number-of w ≡ none
 no-number [] h = absurd h
 no-number (c ∷ cs) h =
     cond-all (λ o. o ≡ none) (leb 1 (length (c ∷ cs)) && leb (length (c ∷ cs)) 18) (number-from 0 (c ∷ cs)) none
-      (λ e. ap (λ b. cond b (number-from (0 * 10 + (c - 48)) cs) none) (not-true (is-digit c) h)) (λ e. refl)
+    (λ e. ap (λ b. cond b (number-from (0 * 10 + (c - 48)) cs) none) (not-true (is-digit c) h)) (λ e. refl)
   where
     not-true : (b : Bool) → T (not b) → b ≡ false
     not-true true q = absurd q
@@ -101,15 +100,18 @@ Tells w (c-start s) = w ≡ starter s
 Tells w (c-separate s) = w ≡ separator s
 Tells w c-other = Unit {0}
 
-abbrev pub All-tell : List Entry → Type 0
-All-tell [] = Unit {0}
-All-tell (x ∷ xs) = Tells (x .text) (x .class) × All-tell xs
+infixr 5 _also_
 
-pub class-in-tells : (xs : List Entry) → All-tell xs → (w : Name) → Tells w (class-in xs w)
-class-in-tells [] h w = tt
-class-in-tells (x ∷ xs) h w =
+-- what the classes tell holds of each entry
+pub data All-tell : List Entry → Type 0 where
+  no-more : All-tell []
+  _also_ : {x : Entry} {xs : List Entry} → Tells (x .text) (x .class) → All-tell xs → All-tell (x ∷ xs)
+
+pub class-in-tells : {xs : List Entry} → All-tell xs → (w : Name) → Tells w (class-in xs w)
+class-in-tells no-more w = tt
+class-in-tells (_also_ {x = x} {xs = xs} h hs) w =
     cond-all (Tells w) (same w (x .text)) (x .class) (class-in xs w)
-      (λ e. subst (λ y. Tells y (x .class)) (sym (same-is w (x .text) (T-of e))) (h .0)) (λ e. class-in-tells xs (h .1) w)
+    (λ e. subst (λ y. Tells y (x .class)) (sym (same-is w (x .text) (T-of e))) h) (λ e. class-in-tells hs w)
 
 pub takes-only : {w : Name} {f : Builtin} (m : ℕ) → Builtin-word w f m → (n : ℕ) → T (eqb n m) → Builtin-word w f n
 takes-only {w} {f} m p n h = subst (λ z. Builtin-word w f z) (sym (eqb→eq n m h)) p
@@ -117,23 +119,29 @@ takes-only {w} {f} m p n h = subst (λ z. Builtin-word w f z) (sym (eqb→eq n m
 pub exit-takes : (n : ℕ) → T (eqb n 1 || eqb n 2) → Builtin-word k-exit exit n
 exit-takes n =
     bool-all (λ b. T (b || eqb n 2) → Builtin-word k-exit exit n) (eqb n 1)
-      (λ e h. takes-only 1 exit-word n (T-of e)) (λ e h. takes-only 2 exit-to-word n h)
+    (λ e h. takes-only 1 exit-word n (T-of e)) (λ e h. takes-only 2 exit-to-word n h)
 
--- in the table's order: ten operators; brackets, separators and starters; built-in functions
+-- in the table's order: operators; brackets, separators and starters; built-in functions
 pub table-tells : All-tell table
 table-tells =
-  ((refl, comparison equal-sign), ((refl, comparison unequal-sign), ((refl, comparison less-sign), ((refl, comparison at-most-sign),
-  ((refl, pairing), ((refl, sum plus-sign), ((refl, sum minus-sign),
-  ((refl, product times-sign), ((refl, product divide-sign), ((refl, product modulo-sign),
-  (refl, (refl, (refl, (refl, (refl, (refl, (refl, (refl, (refl, (refl, (refl, (refl, (refl, (refl, (refl,
-  (takes-only 2 send-word, (takes-only 0 self-word, (takes-only 1 link-word, (exit-takes, (takes-only 1 trap-word,
-  (takes-only 1 show-word, (takes-only 1 name-word, (takes-only 1 where-word, (takes-only 1 swap-word, tt))))))))))))))))))))))))))))))))))
+    (refl, comparison equal-sign) also (refl, comparison unequal-sign)
+    also (refl, comparison less-sign) also (refl, comparison at-most-sign)
+    also (refl, pairing)
+    also (refl, sum plus-sign) also (refl, sum minus-sign)
+    also (refl, product times-sign) also (refl, product divide-sign) also (refl, product modulo-sign)
+    also refl also refl also refl also refl
+    also refl also refl also refl also refl
+    also refl also refl also refl also refl also refl also refl also refl
+    also takes-only 2 send-word also takes-only 0 self-word also takes-only 1 link-word also exit-takes
+    also takes-only 1 trap-word also takes-only 1 show-word also takes-only 1 name-word
+    also takes-only 1 where-word also takes-only 1 swap-word
+    also no-more
 
 pub class-tells : (w : Name) → Tells w (class-of w)
 class-tells w =
     opt-all (Tells w) (number-of w) (cond (is-name w) (c-name w) (class-in table w)) c-number
-      (λ e. cond-all (Tells w) (is-name w) (c-name w) (class-in table w) (λ h. (refl, T-of h)) (λ h. class-in-tells table table-tells w))
-      (λ n e. is-number n (leb 1 (length w) && leb (length w) 18) refl e)
+    (λ e. cond-all (Tells w) (is-name w) (c-name w) (class-in table w) (λ h. (refl, T-of h)) (λ h. class-in-tells table-tells w))
+    (λ n e. is-number n (leb 1 (length w) && leb (length w) 18) refl e)
   where
     is-number : (n : ℕ) (b : Bool) → (leb 1 (length w) && leb (length w) 18) ≡ b → cond b (number-from 0 w) none ≡ some n → Number w n
     is-number n true h e = (T-of h, e)
@@ -186,9 +194,11 @@ letters-none x h = way (class-of x) (class-tells x)
     opening-no : (b : Bracket) → T (all-letters (opening b)) → ⊥
     opening-no paren q = q
     opening-no brace q = q
+
     closing-no : (b : Bracket) → T (all-letters (closing b)) → ⊥
     closing-no paren q = q
     closing-no brace q = q
+
     way : (c : Class) → Tells x c → landmark c ≡ l-none
     way (c-number n) q = refl
     way (c-name y) q = refl

@@ -16,17 +16,21 @@ echo-text = codes "module m; fn echo() { receive { {from, x} -> { send(from, x);
 
 abbrev pub echo : Function
 echo = record {
-  name = codes "echo"; params = [];
+  name = codes "echo";
+  params = [];
   body = last (receive (clause (p-tuple (and-p (p-var (codes "from")) (and-p (p-var (codes "x")) no-p)))
-    (bind p-any (apply (built-in send) (x₂ (var (codes "from")) (var (codes "x")))) (last (apply (call (codes "echo")) no-e))) no-c)) }
+      (bind p-any (apply (built-in send) (x₂ (var (codes "from")) (var (codes "x")))) (last (apply (call (codes "echo")) no-e))) no-c));
+}
 
 abbrev pub ask : Function
 ask = record {
-  name = codes "main"; params = [];
+  name = codes "main";
+  params = [];
   body =
-    bind (p-var (codes "e")) (apply (spawn (codes "echo")) no-e)
-    (bind p-any (apply (built-in send) (x₂ (var (codes "e")) (apply make-tuple (x₂ (apply (built-in self) no-e) (atom (codes "hello"))))))
-    (last (receive-until (clause (p-var (codes "x")) (last (apply (built-in show) (x₁ (var (codes "x"))))) no-c) (int 100) (last (atom (codes "late")))))) }
+      bind (p-var (codes "e")) (apply (spawn (codes "echo")) no-e)
+      (bind p-any (apply (built-in send) (x₂ (var (codes "e")) (apply make-tuple (x₂ (apply (built-in self) no-e) (atom (codes "hello"))))))
+      (last (receive-until (clause (p-var (codes "x")) (last (apply (built-in show) (x₁ (var (codes "x"))))) no-c) (int 100) (last (atom (codes "late"))))));
+}
 
 abbrev pub echo-program : Program
 echo-program = record { name = codes "m"; functions = echo ∷ ask ∷ [] } ∷ []
@@ -37,11 +41,13 @@ sums-text = codes "module m; fn main() { x = 1 - 2 - 3 * 4; y = (1 + x) :: 2 :: 
 
 abbrev pub sums : Function
 sums = record {
-  name = codes "main"; params = [];
+  name = codes "main";
+  params = [];
   body =
-    bind (p-var (codes "x")) (apply (operate minus) (x₂ (apply (operate minus) (x₂ (int 1) (int 2))) (apply (operate times) (x₂ (int 3) (int 4)))))
-    (bind (p-var (codes "y")) (apply make-pair (x₂ (apply (operate plus) (x₂ (int 1) (var (codes "x")))) (apply make-pair (x₂ (int 2) nil))))
-    (last (apply (operate less) (x₂ (var (codes "x")) (int 5))))) }
+      bind (p-var (codes "x")) (apply (operate minus) (x₂ (apply (operate minus) (x₂ (int 1) (int 2))) (apply (operate times) (x₂ (int 3) (int 4)))))
+      (bind (p-var (codes "y")) (apply make-pair (x₂ (apply (operate plus) (x₂ (int 1) (var (codes "x")))) (apply make-pair (x₂ (int 2) nil))))
+      (last (apply (operate less) (x₂ (var (codes "x")) (int 5)))));
+}
 
 abbrev pub sums-program : Program
 sums-program = record { name = codes "m"; functions = sums ∷ [] } ∷ []

@@ -58,7 +58,7 @@ binds d (w ∷ ws) = pass d (landmark (class-of w)) (λ n. binds n ws)
 abbrev pub name-ends : Name → ExprStack → Name → Option State
 name-ends x k w =
     cond (same w open-paren) (some (want-expr (in-list paren (call x) none-yet k)))
-      (cond (same w colon) (some (after-colon x k)) (after-expr (var x) k (class-of w)))
+    (cond (same w colon) (some (after-colon x k)) (after-expr (var x) k (class-of w)))
 
 -- a token behind the clauses of a receive
 abbrev pub clauses-end : Clauses → ExprStack → Name → Option State
@@ -137,8 +137,14 @@ program-at (after-parameters x ps m) = none
 abbrev pub parse : List Name → Option Program
 parse s = on-some (run (top-level no-module) s) program-at
 
+-- the size of a text, and how deep its brackets go
+abbrev pub within-limits : List ℕ → Bool
+within-limits t = leb (length t) 32768 && shallow 0 (tokens gap t)
+
+-- every name is bound, no two functions are alike, and main is there
+abbrev pub checked : Program → Option Program
+checked g = cond (has-main g && sound-modules g) (some g) none
+
 -- the program that a text is, if it is one
 abbrev pub read : List ℕ → Option Program
-read t =
-    cond (leb (length t) 32768 && shallow 0 (tokens gap t))
-      (on-some (parse (tokens gap t)) (λ g. cond (has-main g && sound-modules g) (some g) none)) none
+read t = cond (within-limits t) (on-some (parse (tokens gap t)) checked) none

@@ -8,4 +8,5 @@ pub returns : need.returns
 returns c = record {
   echo = read-sound echo-text echo-program refl;
   sums = read-sound sums-text sums-program refl;
-  refused = refused compared-text refl }
+  refused = refused compared-text refl;
+}
