@@ -6,13 +6,13 @@ use mathlib.Core.List.{List, [], _∷_, _++_, append-assoc, append-nil}
 use mathlib.Core.Option.{Option}
 use Prim.Native.Nat.{ℕ}
 use lib.Dec.{T}
-use Rattle.meaning.specs.Basics.{Name}
+use Rattle.meaning.specs.Basics.{Name, same}
 use Rattle.meaning.specs.Syntax.{Pattern, p-any, Patterns, no-p, and-p, Builtin, Operation, make-tuple, call, far-call, spawn, far-spawn, built-in, Expr, apply, Exprs, no-e, and-e, Body, bind, Clauses, clause, Function, Program}
 use Rattle.meaning.specs.Grammar.{k-module, k-fn, k-case, k-receive, k-until, k-catch, k-spawn, open-paren, close-paren, open-bracket, open-brace, close-brace, comma, semicolon, colon, equals, quote, arrow, double-colon, is-name, count, Builtin-word, NamesOf, more-n, PatternAt, PatternsOf, more-x, ExprAt, tuple-e, call-e, far-e, spawn-e, spawn-far-e, builtin-e, ExprsOf, more-es, BodyOf, then-b, bind-b, ClausesOf, more-cs, FunctionOf, FunctionsOf, no-f, more-f, ModulesOf, more-m}
 use Rattle.grammar.specs.Classes.{Bracket, paren, brace, closing}
 use Rattle.grammar.specs.Expressions.{takes, arity-fits}
 use Rattle.grammar.specs.Stack.{Snoc, none-yet, snoc, onto, Statement, statement, Arm, arm, bind-statement, add-arm, exprs-of, patterns-of, body-of, clauses-of, list-of, Modules, no-module, in-module, module-of, program-of, Owner, of-case, of-receive, ExprStack, operand, in-parens, in-list, in-case, in-until, in-statement, in-binding, BodyStack, in-arm, in-timeout, in-catch, in-function, PatternStack, in-cons, in-group, in-tuple, before-equals, before-arrow, State, want-expr, have-expr, after-name, after-colon, want-operands, after-quote, after-bracket, after-spawn, after-spawn-name, after-spawn-colon, after-receive, after-clauses, after-catch, want-statement, want-pattern, have-pattern, after-pattern-quote, after-pattern-bracket, after-arrow, top-level, after-module, after-module-name, after-fn, after-fn-name, want-parameter, after-parameter, after-parameters, when}
-use Rattle.meaning.proofs.Splits.{T-of, cond-all, OnSome}
+use Rattle.meaning.proofs.Splits.{same-is, T-of, cond-all, OnSome}
 use Rattle.grammar.proofs.Tokens.{Joins, left-level}
 use Rattle.grammar.proofs.Levels.{fits}
 
@@ -206,5 +206,10 @@ behind q w = ap (λ z. z ++ w) q
 pub reshape : (u s u' s' : List Name) (w : Name) → u ++ s ≡ u' ++ s' → u ++ (s ++ (w ∷ [])) ≡ u' ++ (s' ++ (w ∷ []))
 reshape u s u' s' w e = sym (append-assoc u s (w ∷ [])) ∙ (ap (λ z. z ++ (w ∷ [])) e ∙ append-assoc u' s' (w ∷ []))
 
-pub further : {v : List Name} (u s : List Name) → v ≡ u ++ s → (w x : Name) → w ≡ x → v ++ (w ∷ []) ≡ u ++ (s ++ (x ∷ []))
-further u s q w x e = behind q (w ∷ []) ∙ (append-assoc u s (w ∷ []) ∙ ap (λ z. u ++ (s ++ (z ∷ []))) e)
+-- one more token, whichever it is, or the token x
+pub followed : {v : List Name} (u s : List Name) → v ≡ u ++ s → (w : Name) → v ++ (w ∷ []) ≡ u ++ (s ++ (w ∷ []))
+followed u s q w = behind q (w ∷ []) ∙ append-assoc u s (w ∷ [])
+
+pub followed-by :
+    {v : List Name} (u s : List Name) → v ≡ u ++ s → (w x : Name) → T (same w x) → v ++ (w ∷ []) ≡ u ++ (s ++ (x ∷ []))
+followed-by u s q w x h = followed u s q w ∙ ap (λ z. u ++ (s ++ (z ∷ []))) (same-is w x h)
