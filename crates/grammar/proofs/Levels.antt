@@ -1,21 +1,20 @@
 -- Which token may follow an expression of a level, and which operators may wait before it.
 -- An operator that waits and binds at least as tightly as what follows is applied; the others stay where they are.
-use mathlib.Core.Path.{_≡_, refl, _∙_, sym, subst}
-use mathlib.Core.Bool.{Bool, true, false, _&&_, cond}
-use mathlib.Core.Option.{some}
+use mathlib.Core.Path.{_≡_, refl, sym, subst}
+use mathlib.Core.Bool.{Bool, true, false, _&&_}
 use Prim.Native.Nat.{ℕ, zero, suc, _≤_, _<_}
 use native.Mathlib.Omega.{arith}
 use lib.Dec.{ltb, leb, T, leb→le, le→leb, ltb→lt, lt→ltb}
 use borrow.Author.Tests.{lt-leb}
 use Rattle.meaning.specs.Basics.{Name, same}
-use Rattle.meaning.specs.Syntax.{Pattern, p-cons, Operation, call, Expr, var, receive, Clauses}
+use Rattle.meaning.specs.Syntax.{Pattern, p-cons, Operation, Expr, var, receive, Clauses}
 use Rattle.meaning.specs.Grammar.{k-until, open-paren, colon}
 use Rattle.grammar.specs.Classes.{paren, brace, s-comma, s-semicolon, s-equals, s-arrow, Class, c-number, c-name, c-operator, c-open, c-close, c-builtin, c-start, c-separate, c-other, class-of}
 use Rattle.grammar.specs.Expressions.{binary, reduced, reduce, comparing, after-expr}
 use Rattle.grammar.specs.Machine.{name-ends, clauses-end}
 use Rattle.grammar.specs.Patterns.{is-pair, after-pattern}
-use Rattle.grammar.specs.Stack.{none-yet, ExprStack, operand, in-parens, in-list, in-case, in-until, in-statement, in-binding, PatternStack, in-cons, want-expr, after-colon}
-use Rattle.meaning.proofs.Splits.{eqb-isnt, is-true, and-T, cond-false}
+use Rattle.grammar.specs.Stack.{ExprStack, operand, in-parens, in-list, in-case, in-until, in-statement, in-binding, PatternStack, in-cons}
+use Rattle.meaning.proofs.Splits.{eqb-isnt, is-true, and-T}
 use Rattle.grammar.proofs.Tokens.{differ}
 
 -- what may stand behind an expression of level n: an operator that no operator of this level takes as its own
@@ -120,7 +119,9 @@ pub all-at-least : (n : ℕ) → leb 0 n ≡ true
 all-at-least n = is-true (leb 0 n) (le→leb 0 n (omega arith))
 
 -- what may follow an operand of level m applies the operator that waits for it
-pub after-operand : (m : ℕ) (o : Operation) (a e : Expr) (k : ExprStack) (c : Class) → T (follows m c) → after-expr e (operand m o a k) c ≡ after-expr (binary o a e) k c
+pub after-operand :
+    (m : ℕ) (o : Operation) (a e : Expr) (k : ExprStack) (c : Class) → T (follows m c) →
+    after-expr e (operand m o a k) c ≡ after-expr (binary o a e) k c
 after-operand l i a e k (c-number n) h = absurd h
 after-operand l i a e k (c-name x) h = absurd h
 after-operand l i a e k (c-operator t m o) h = rw (is-true (leb t l) h)
@@ -135,16 +136,20 @@ after-operand l i a e k (c-separate s-equals) h = absurd h
 after-operand l i a e k (c-separate s-arrow) h = absurd h
 after-operand l i a e k c-other h = absurd h
 
--- behind a name, what may follow an expression does not make it a call
-pub name-is-variable : (n : ℕ) (x : Name) (k : ExprStack) (w : Name) → T (follows n (class-of w)) → name-ends x k w ≡ after-expr (var x) k (class-of w)
-name-is-variable n x k w h =
-    let no-call = differ (λ z. T (follows n (class-of z))) w open-paren h (λ q. q) in
-    let no-far = differ (λ z. T (follows n (class-of z))) w colon h (λ q. q) in
-    cond-false (same w open-paren) (some (want-expr (in-list paren (call x) none-yet k))) (cond (same w colon) (some (after-colon x k)) (after-expr (var x) k (class-of w))) no-call
-    ∙ cond-false (same w colon) (some (after-colon x k)) (after-expr (var x) k (class-of w)) no-far
+-- what may follow an expression does not make a name a call, nor clauses wait for a time
+pub follows-differs :
+    (n : ℕ) (w x : Name) → T (follows n (class-of w)) → (T (follows n (class-of x)) → ⊥) → same w x ≡ false
+follows-differs n w x h q = differ (λ z. T (follows n (class-of z))) w x h q
 
-pub no-until : (n : ℕ) (cs : Clauses) (k : ExprStack) (w : Name) → T (follows n (class-of w)) → clauses-end cs k w ≡ after-expr (receive cs) k (class-of w)
-no-until n cs k w h = cond-false (same w k-until) (some (want-expr (in-until cs k))) (after-expr (receive cs) k (class-of w)) (differ (λ z. T (follows n (class-of z))) w k-until h (λ q. q))
+pub name-is-variable :
+    (n : ℕ) (x : Name) (k : ExprStack) (w : Name) → T (follows n (class-of w)) →
+    name-ends x k w ≡ after-expr (var x) k (class-of w)
+name-is-variable n x k w h = rw (follows-differs n w open-paren h (λ q. q), follows-differs n w colon h (λ q. q))
+
+pub no-until :
+    (n : ℕ) (cs : Clauses) (k : ExprStack) (w : Name) → T (follows n (class-of w)) →
+    clauses-end cs k w ≡ after-expr (receive cs) k (class-of w)
+no-until n cs k w h = rw (follows-differs n w k-until h (λ q. q))
 
 -- what may stand behind a pattern: of level 1 also ::
 abbrev pub follows-pattern : ℕ → Class → Bool
@@ -176,7 +181,9 @@ follows-plain (c-separate s-arrow) h = tt
 follows-plain c-other h = absurd h
 
 -- behind the right part of :: the two parts are put together
-pub after-cons : (a p : Pattern) (k : PatternStack) (c : Class) → T (follows-pattern 0 c) → after-pattern p (in-cons a k) c ≡ after-pattern (p-cons a p) k c
+pub after-cons :
+    (a p : Pattern) (k : PatternStack) (c : Class) → T (follows-pattern 0 c) →
+    after-pattern p (in-cons a k) c ≡ after-pattern (p-cons a p) k c
 after-cons a p k (c-number n) h = absurd h
 after-cons a p k (c-name x) h = absurd h
 after-cons a p k (c-operator t m o) h = absurd (and-T (is-pair o) false h .1)

@@ -1,9 +1,11 @@
+-- Tokens and levels; then complete (LookAhead to Complete), sound (Elements to Sound), and both for whole texts.
 pub mod Tokens
 pub mod Levels
 pub mod LookAhead
 pub mod ReadsPatterns
 pub mod ReadsExprs
 pub mod Complete
+pub mod Elements
 pub mod Made
 pub mod SoundExprs
 pub mod SoundPatterns

@@ -24,7 +24,8 @@ pass-number d w n ws h = pass-over d w ws (ap landmark (class-number w n h))
 pub pass-atom : (d : ℕ) (x : Name) (ws : List Name) → T (is-atom x) → binds d (x ∷ ws) ≡ binds d ws
 pass-atom d x ws h = pass-over d x ws (letters-none x (atom-letters x h))
 
-pub pass-operator : {l : ℕ} {w : Name} {o : Operator} → Infix l w o → (d : ℕ) (ws : List Name) → binds d (w ∷ ws) ≡ binds d ws
+pub pass-operator :
+    {l : ℕ} {w : Name} {o : Operator} → Infix l w o → (d : ℕ) (ws : List Name) → binds d (w ∷ ws) ≡ binds d ws
 pass-operator plus-sign d ws = refl
 pass-operator minus-sign d ws = refl
 pass-operator times-sign d ws = refl
@@ -35,11 +36,14 @@ pass-operator unequal-sign d ws = refl
 pass-operator less-sign d ws = refl
 pass-operator at-most-sign d ws = refl
 
-pub pass-builtin : {w : Name} {f : Builtin} {n : ℕ} → Builtin-word w f n → (d : ℕ) (ws : List Name) → binds d (w ∷ ws) ≡ binds d ws
+pub pass-builtin :
+    {w : Name} {f : Builtin} {n : ℕ} → Builtin-word w f n → (d : ℕ) (ws : List Name) → binds d (w ∷ ws) ≡ binds d ws
 pass-builtin {w} p d ws = pass-over d w ws (ap landmark (class-builtin p))
 
 mutual
-  pub pass-pattern : {n : ℕ} {s : List Name} {p : Pattern} → PatternAt n s p → (d : ℕ) (ws : List Name) → binds d (s ++ ws) ≡ binds d ws
+  pub pass-pattern :
+      {n : ℕ} {s : List Name} {p : Pattern} → PatternAt n s p → (d : ℕ) (ws : List Name) →
+      binds d (s ++ ws) ≡ binds d ws
   pass-pattern (cons-x x y) d ws = simp append-assoc (pass-pattern x d _ ∙ pass-pattern y d ws)
   pass-pattern (plain-x x) d ws = pass-pattern x d ws
   pass-pattern any-x d ws = refl
@@ -50,18 +54,23 @@ mutual
   pass-pattern nil-x d ws = refl
   pass-pattern (brackets-x x) d ws = simp append-assoc (pass-pattern x (suc d) (close-paren ∷ ws))
 
-  pub pass-patterns : {s : List Name} {ps : Patterns} → PatternsOf s ps → (d : ℕ) (ws : List Name) → binds d (s ++ ws) ≡ binds d ws
+  pub pass-patterns :
+      {s : List Name} {ps : Patterns} → PatternsOf s ps → (d : ℕ) (ws : List Name) → binds d (s ++ ws) ≡ binds d ws
   pass-patterns no-x d ws = refl
   pass-patterns (one-x x) d ws = pass-pattern x d ws
   pass-patterns (more-x x y) d ws = simp append-assoc (pass-pattern x d _ ∙ pass-patterns y d ws)
 
 mutual
-  pub pass-expr : {n : ℕ} {s : List Name} {e : Expr} → ExprAt n s e → (d : ℕ) (ws : List Name) → binds d (s ++ ws) ≡ binds d ws
+  pub pass-expr :
+      {n : ℕ} {s : List Name} {e : Expr} → ExprAt n s e → (d : ℕ) (ws : List Name) → binds d (s ++ ws) ≡ binds d ws
   pass-expr (looser l x) d ws = pass-expr x d ws
-  pass-expr (compare-e {t = t} x o y) d ws = simp append-assoc (pass-expr x d _ ∙ pass-operator o d (t ++ ws) ∙ pass-expr y d ws)
+  pass-expr (compare-e {t = t} x o y) d ws =
+      simp append-assoc (pass-expr x d _ ∙ pass-operator o d (t ++ ws) ∙ pass-expr y d ws)
   pass-expr (cons-e x y) d ws = simp append-assoc (pass-expr x d _ ∙ pass-expr y d ws)
-  pass-expr (sum-e {t = t} x o y) d ws = simp append-assoc (pass-expr x d _ ∙ pass-operator o d (t ++ ws) ∙ pass-expr y d ws)
-  pass-expr (product-e {t = t} x o y) d ws = simp append-assoc (pass-expr x d _ ∙ pass-operator o d (t ++ ws) ∙ pass-expr y d ws)
+  pass-expr (sum-e {t = t} x o y) d ws =
+      simp append-assoc (pass-expr x d _ ∙ pass-operator o d (t ++ ws) ∙ pass-expr y d ws)
+  pass-expr (product-e {t = t} x o y) d ws =
+      simp append-assoc (pass-expr x d _ ∙ pass-operator o d (t ++ ws) ∙ pass-expr y d ws)
   pass-expr (int-e {w = w} {n = n} h) d ws = pass-number d w n ws h
   pass-expr (atom-e {x = x} h) d ws = pass-atom d x ws h
   pass-expr (var-e {x = x} h) d ws = pass-name d x ws h
@@ -91,20 +100,25 @@ mutual
       ∙ pass-expr y d (open-brace ∷ (u ++ (close-brace ∷ ws))) ∙ pass-body z d (close-brace ∷ ws))
   pass-expr (catch-e x) d ws = simp append-assoc (pass-body x d (close-brace ∷ ws))
 
-  pub pass-exprs : {s : List Name} {es : Exprs} → ExprsOf s es → (d : ℕ) (ws : List Name) → binds d (s ++ ws) ≡ binds d ws
+  pub pass-exprs :
+      {s : List Name} {es : Exprs} → ExprsOf s es → (d : ℕ) (ws : List Name) → binds d (s ++ ws) ≡ binds d ws
   pass-exprs none-es d ws = refl
   pass-exprs (one-es x) d ws = pass-expr x d ws
   pass-exprs (more-es x y) d ws = simp append-assoc (pass-expr x d _ ∙ pass-exprs y d ws)
 
   -- a body and clauses stand in brackets, so that their ; and = are passed over
-  pub pass-body : {s : List Name} {b : Body} → BodyOf s b → (d : ℕ) (ws : List Name) → binds (suc d) (s ++ ws) ≡ binds (suc d) ws
+  pub pass-body :
+      {s : List Name} {b : Body} → BodyOf s b → (d : ℕ) (ws : List Name) → binds (suc d) (s ++ ws) ≡ binds (suc d) ws
   pass-body (last-b x) d ws = pass-expr x (suc d) ws
   pass-body (then-b x y) d ws = simp append-assoc (pass-expr x (suc d) _ ∙ pass-body y d ws)
   pass-body (bind-b {t = t} {u = u} x y z) d ws =
       simp append-assoc
-      (pass-pattern x (suc d) (equals ∷ (t ++ (semicolon ∷ (u ++ ws)))) ∙ pass-expr y (suc d) (semicolon ∷ (u ++ ws)) ∙ pass-body z d ws)
+      (pass-pattern x (suc d) (equals ∷ (t ++ (semicolon ∷ (u ++ ws))))
+      ∙ pass-expr y (suc d) (semicolon ∷ (u ++ ws)) ∙ pass-body z d ws)
 
-  pub pass-clauses : {s : List Name} {cs : Clauses} → ClausesOf s cs → (d : ℕ) (ws : List Name) → binds (suc d) (s ++ ws) ≡ binds (suc d) ws
+  pub pass-clauses :
+      {s : List Name} {cs : Clauses} → ClausesOf s cs → (d : ℕ) (ws : List Name) →
+      binds (suc d) (s ++ ws) ≡ binds (suc d) ws
   pass-clauses no-cs d ws = refl
   pass-clauses (more-cs {t = t} {u = u} x y z) d ws =
       simp append-assoc

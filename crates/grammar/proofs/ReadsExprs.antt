@@ -35,7 +35,8 @@ statement-pattern acc k [] w ws h = rw h
 statement-pattern acc k (x ∷ xs) w ws h = rw h
 
 -- a name, where an expression is wanted and where a name must come
-pub reads-name : (x : Name) (k : ExprStack) (ws : List Name) → T (is-name x) → run (want-expr k) (x ∷ ws) ≡ run (after-name x k) ws
+pub reads-name :
+    (x : Name) (k : ExprStack) (ws : List Name) → T (is-name x) → run (want-expr k) (x ∷ ws) ≡ run (after-name x k) ws
 reads-name x k ws h = ap (λ c. then-run (start-expr k c) ws) (class-name x h)
 
 pub then-when : (x : Name) (st : State) (ws : List Name) → T (is-name x) → then-run (when (is-name x) st) ws ≡ run st ws
@@ -148,7 +149,8 @@ mutual
       ∙ reads-exprs d paren (built-in b) none-yet k tt (subst (λ z. T (takes b z)) (sym q) (builtin-takes p)) (w ∷ ws))
   reads-expr (case-e {t = t} {e = e} d g) k c w f ws =
       simp append-assoc
-      (reads-expr d (in-case k) tt open-brace tt (t ++ (close-brace ∷ w ∷ ws)) ∙ reads-clauses g (of-case e) none-yet k (w ∷ ws))
+      (reads-expr d (in-case k) tt open-brace tt (t ++ (close-brace ∷ w ∷ ws))
+      ∙ reads-clauses g (of-case e) none-yet k (w ∷ ws))
   reads-expr (receive-e {cs = cs} d) k c w f ws =
       simp append-assoc (reads-clauses d of-receive none-yet k (w ∷ ws) ∙ ap (λ o. then-run o ws) (no-until 4 cs k w f))
   reads-expr (until-e {t = t} {u = u} {cs = cs} {e = e} d g i) k c w f ws =
@@ -175,7 +177,8 @@ mutual
       {s : List Name} {b : Body} → BodyOf s b → (acc : Snoc Statement) (k : BodyStack) (ws : List Name) →
       run (want-statement acc k) (s ++ (close-brace ∷ ws)) ≡ then-run (close-body (body-of acc b) k) ws
   reads-body (last-b {s = s} d) acc k ws =
-      statement-expr acc k s close-brace ws (pass-expr d 0 (close-brace ∷ ws)) ∙ reads-expr d (in-statement acc k) tt close-brace tt ws
+      statement-expr acc k s close-brace ws (pass-expr d 0 (close-brace ∷ ws))
+      ∙ reads-expr d (in-statement acc k) tt close-brace tt ws
   reads-body (then-b {s = s} {t = t} {e = e} d g) acc k ws =
       simp append-assoc
       (statement-expr acc k s semicolon (t ++ (close-brace ∷ ws)) (pass-expr d 0 (semicolon ∷ (t ++ (close-brace ∷ ws))))

@@ -39,7 +39,8 @@ mutual
   reads-pattern (plain-x d) k w f ws = reads-pattern d k w (follows-plain (class-of w) f) ws
   reads-pattern any-x k w f ws = refl
   reads-pattern (var-x {x = x} h) k w f ws = ap (λ c. then-run (start-pattern k c) (w ∷ ws)) (class-name x h)
-  reads-pattern (int-x {w = v} {n = n} h) k w f ws = ap (λ c. then-run (start-pattern k c) (w ∷ ws)) (class-number v n h)
+  reads-pattern (int-x {w = v} {n = n} h) k w f ws =
+      ap (λ c. then-run (start-pattern k c) (w ∷ ws)) (class-number v n h)
   reads-pattern (atom-x {x = x} h) k w f ws =
       ap (λ b. then-run (when b (have-pattern (p-atom x) k)) (w ∷ ws)) (is-true (is-atom x) h)
   reads-pattern (tuple-x d) k w f ws = simp append-assoc (reads-patterns d none-yet k tt (w ∷ ws))
@@ -54,4 +55,5 @@ mutual
   reads-patterns no-x (snoc acc p) k f ws = absurd f
   reads-patterns (one-x d) acc k f ws = reads-pattern d (in-tuple acc k) close-brace tt ws
   reads-patterns (more-x {t = t} {p = p} d ds) acc k f ws =
-      simp append-assoc (reads-pattern d (in-tuple acc k) comma tt (t ++ (close-brace ∷ ws)) ∙ reads-patterns ds (snoc acc p) k tt ws)
+      simp append-assoc
+      (reads-pattern d (in-tuple acc k) comma tt (t ++ (close-brace ∷ ws)) ∙ reads-patterns ds (snoc acc p) k tt ws)

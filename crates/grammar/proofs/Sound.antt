@@ -12,21 +12,26 @@ use Rattle.grammar.specs.Patterns.{after-pattern}
 use Rattle.grammar.specs.Stack.{Modules, no-module, program-of, State, top-level}
 use Rattle.meaning.proofs.Splits.{some-is, none-some, same-is, on-some-all}
 use Rattle.grammar.proofs.Tokens.{class-tells}
-use Rattle.grammar.proofs.Made.{made-none, made-more, parameter, ModulesMade, made-no-module, made-module, names-made, modules-made, made-of-receive, open-far, open-spawn, open-far-spawn, made-list, made-statement, made-arm, made-catch, made-function, made-before-equals, made-before-arrow, StateMade, at-want-expr, at-after-name, at-after-colon, at-want-operands, at-after-quote, at-after-bracket, at-after-spawn, at-after-spawn-name, at-after-spawn-colon, at-after-receive, at-after-clauses, at-after-catch, at-have-expr, at-want-statement, at-want-pattern, at-after-pattern-quote, at-after-pattern-bracket, at-have-pattern, at-after-arrow, at-top, at-after-module, at-after-module-name, at-after-fn, at-after-fn-name, at-want-parameter, at-after-parameter, at-after-parameters, Goes, when-goes, cond-goes, followed, followed-by}
+use Rattle.grammar.proofs.Elements.{made-none, made-more, parameter, ModulesMade, made-no-module, made-module, names-made, modules-made}
+use Rattle.grammar.proofs.Made.{made-of-receive, open-far, open-spawn, open-far-spawn, made-list, made-statement, made-arm, made-catch, made-function, made-before-equals, made-before-arrow, StateMade, at-want-expr, at-after-name, at-after-colon, at-want-operands, at-after-quote, at-after-bracket, at-after-spawn, at-after-spawn-name, at-after-spawn-colon, at-after-receive, at-after-clauses, at-after-catch, at-have-expr, at-want-statement, at-want-pattern, at-after-pattern-quote, at-after-pattern-bracket, at-have-pattern, at-after-arrow, at-top, at-after-module, at-after-module-name, at-after-fn, at-after-fn-name, at-want-parameter, at-after-parameter, at-after-parameters, Goes, when-goes, cond-goes, followed, followed-by}
 use Rattle.grammar.proofs.SoundExprs.{start-expr-sound, after-expr-sound, name-ends-sound, clauses-end-sound}
 use Rattle.grammar.proofs.SoundPatterns.{start-pattern-sound, after-pattern-sound}
 
-pub at-top-level-sound : {m : Modules} {v : List Name} → ModulesMade m v → (w : Name) → Goes (at-top-level m w) (v ++ (w ∷ []))
+pub at-top-level-sound :
+    {m : Modules} {v : List Name} → ModulesMade m v → (w : Name) → Goes (at-top-level m w) (v ++ (w ∷ []))
 at-top-level-sound {v = v} made-no-module w =
     when-goes (same w k-module) _ _ (λ h. at-after-module made-no-module (ap (λ z. v ++ (z ∷ [])) (same-is w k-module h)))
 at-top-level-sound {v = v} (made-module st h f q) w =
-    cond-goes (same w k-module) _ _ _ (λ e. at-after-module (made-module st h f q) (ap (λ z. v ++ (z ∷ [])) (same-is w k-module e)))
+    cond-goes (same w k-module) _ _ _
+    (λ e. at-after-module (made-module st h f q) (ap (λ z. v ++ (z ∷ [])) (same-is w k-module e)))
     (when-goes (same w k-fn) _ _ (λ e. at-after-fn (made-module st h f q) (ap (λ z. v ++ (z ∷ [])) (same-is w k-fn e))))
 
-pub step-sound : {x : State} {v : List Name} → StateMade x v → (w : Name) (ws : List Name) → Goes (step x w ws) (v ++ (w ∷ []))
+pub step-sound :
+    {x : State} {v : List Name} → StateMade x v → (w : Name) (ws : List Name) → Goes (step x w ws) (v ++ (w ∷ []))
 step-sound (at-want-expr st) w ws = start-expr-sound st w (class-of w) (class-tells w)
 step-sound (at-have-expr {k = k} {e = e} {u = u} {s = s} st d q) w ws =
-    subst (Goes (after-expr e k (class-of w))) (sym (followed u s q w)) (after-expr-sound st e s d w (class-of w) (class-tells w))
+    subst (Goes (after-expr e k (class-of w))) (sym (followed u s q w))
+    (after-expr-sound st e s d w (class-of w) (class-tells w))
 step-sound (at-after-name {k = k} {u = u} {x = x} st h q) w ws =
     subst (Goes (name-ends x k w)) (sym (followed u (x ∷ []) q w)) (name-ends-sound st x h w)
 step-sound (at-after-colon {u = u} {x = x} st h q) w ws =
@@ -34,10 +39,12 @@ step-sound (at-after-colon {u = u} {x = x} st h q) w ws =
 step-sound (at-want-operands {u = u} o st op q) w ws =
     when-goes (same w open-paren) _ _
     (λ g. at-want-expr (made-list st op made-none (followed-by u o q w open-paren g ∙ simp append-nil)))
-step-sound (at-after-quote {u = u} st q) w ws = when-goes (is-atom w) _ _ (λ g. at-have-expr st (atom-e g) (followed u (quote ∷ []) q w))
+step-sound (at-after-quote {u = u} st q) w ws =
+    when-goes (is-atom w) _ _ (λ g. at-have-expr st (atom-e g) (followed u (quote ∷ []) q w))
 step-sound (at-after-bracket {u = u} st q) w ws =
     when-goes (same w close-bracket) _ _ (λ g. at-have-expr st nil-e (followed-by u (open-bracket ∷ []) q w close-bracket g))
-step-sound (at-after-spawn {u = u} st q) w ws = when-goes (is-name w) _ _ (λ g. at-after-spawn-name st g (followed u (k-spawn ∷ []) q w))
+step-sound (at-after-spawn {u = u} st q) w ws =
+    when-goes (is-name w) _ _ (λ g. at-after-spawn-name st g (followed u (k-spawn ∷ []) q w))
 step-sound (at-after-spawn-name {u = u} {x = x} st h q) w ws =
     cond-goes (same w open-paren) _ _ _
     (λ g. at-want-expr (made-list st (open-spawn h) made-none (followed-by u (k-spawn ∷ x ∷ []) q w open-paren g)))
@@ -59,20 +66,26 @@ step-sound (at-want-statement st a q) w ws =
     (start-expr-sound (made-statement st a q) w (class-of w) (class-tells w))
 step-sound (at-want-pattern st) w ws = start-pattern-sound st w (class-of w) (class-tells w)
 step-sound (at-have-pattern {k = k} {p = p} {u = u} {s = s} st d q) w ws =
-    subst (Goes (after-pattern p k (class-of w))) (sym (followed u s q w)) (after-pattern-sound st p s d w (class-of w) (class-tells w))
+    subst (Goes (after-pattern p k (class-of w))) (sym (followed u s q w))
+    (after-pattern-sound st p s d w (class-of w) (class-tells w))
 step-sound (at-after-pattern-quote {u = u} st q) w ws =
     when-goes (is-atom w) _ _ (λ g. at-have-pattern st (atom-x g) (followed u (quote ∷ []) q w))
 step-sound (at-after-pattern-bracket {u = u} st q) w ws =
-    when-goes (same w close-bracket) _ _ (λ g. at-have-pattern st nil-x (followed-by u (open-bracket ∷ []) q w close-bracket g))
+    when-goes (same w close-bracket) _ _
+    (λ g. at-have-pattern st nil-x (followed-by u (open-bracket ∷ []) q w close-bracket g))
 step-sound (at-after-arrow {u = u} {o = o} {s = s} {y = y} st h c d q) w ws =
     when-goes (same w open-brace) _ _
     (λ g. at-want-statement (made-arm st h c d refl) made-none
-        (followed-by u (o ++ (s ++ (y ++ (arrow ∷ [])))) q w open-brace g ∙ simp (append-assoc, append-nil)))
+        (followed-by u (o ++ (s ++ (y ++ (arrow ∷ [])))) q w open-brace g
+        ∙ simp (append-assoc, append-nil)))
 step-sound (at-top st) w ws = at-top-level-sound st w
-step-sound (at-after-module {u = u} st q) w ws = when-goes (is-name w) _ _ (λ g. at-after-module-name st g (followed u (k-module ∷ []) q w))
+step-sound (at-after-module {u = u} st q) w ws =
+    when-goes (is-name w) _ _ (λ g. at-after-module-name st g (followed u (k-module ∷ []) q w))
 step-sound (at-after-module-name {u = u} {x = x} st h q) w ws =
-    when-goes (same w semicolon) _ _ (λ g. at-top (made-module st h made-none (followed-by u (k-module ∷ x ∷ []) q w semicolon g)))
-step-sound (at-after-fn {u = u} st q) w ws = when-goes (is-name w) _ _ (λ g. at-after-fn-name st g (followed u (k-fn ∷ []) q w))
+    when-goes (same w semicolon) _ _
+    (λ g. at-top (made-module st h made-none (followed-by u (k-module ∷ x ∷ []) q w semicolon g)))
+step-sound (at-after-fn {u = u} st q) w ws =
+    when-goes (is-name w) _ _ (λ g. at-after-fn-name st g (followed u (k-fn ∷ []) q w))
 step-sound (at-after-fn-name {u = u} {x = x} st h q) w ws =
     when-goes (same w open-paren) _ _ (λ g. at-want-parameter st h made-none (followed-by u (k-fn ∷ x ∷ []) q w open-paren g))
 step-sound (at-want-parameter {u = u} {x = x} st h made-none q) w ws =
@@ -91,7 +104,8 @@ step-sound (at-after-parameter {u = u} {s = s} {x = x} {y = y} st h n p q) w ws 
 step-sound (at-after-parameters {u = u} {s = s} {x = x} st h n q) w ws =
     when-goes (same w open-brace) _ _
     (λ g. at-want-statement (made-function st h n refl) made-none
-        (followed-by u (k-fn ∷ x ∷ open-paren ∷ (s ++ (close-paren ∷ []))) q w open-brace g ∙ simp (append-assoc, append-nil)))
+        (followed-by u (k-fn ∷ x ∷ open-paren ∷ (s ++ (close-paren ∷ []))) q w open-brace g
+        ∙ simp (append-assoc, append-nil)))
 
 pub run-sound : (ws : List Name) (x : State) (v : List Name) → StateMade x v → Goes (run x ws) (v ++ ws)
 run-sound [] x v i = subst (StateMade x) (sym (append-nil v)) i
@@ -101,7 +115,8 @@ run-sound (w ∷ ws) x v i =
         (step-sound i w ws) (λ y j. run-sound ws y (v ++ (w ∷ [])) j))
 
 -- a program ends between functions: in every other state there is none
-pub program-at-sound : {x : State} {v : List Name} → StateMade x v → (g : Program) → program-at x ≡ some g → ModulesOf v g
+pub program-at-sound :
+    {x : State} {v : List Name} → StateMade x v → (g : Program) → program-at x ≡ some g → ModulesOf v g
 program-at-sound {v = v} (at-top {m = m} st) g e =
     subst (ModulesOf v) (some-is e) (subst (λ z. ModulesOf z (program-of m [])) (append-nil v) (modules-made st [] [] no-m))
 program-at-sound (at-want-expr st) g e = absurd (none-some e)

@@ -19,7 +19,8 @@ use Rattle.grammar.specs.Stack.{ExprStack, operand, BodyStack, State, want-exp
 use Rattle.meaning.proofs.Splits.{T-of, cond-all, bool-all, same-is}
 use Rattle.grammar.proofs.Tokens.{Joins, comparison, pairing, sum, product, left-level, right-level, Tells, class-tells}
 use Rattle.grammar.proofs.Levels.{ceiling, below, fits, may-compare}
-use Rattle.grammar.proofs.Made.{made-none, made-more, argument, plain-statement, binding-statement, clause-made, made-no-module, made-module, exprs-made, body-made, made-of-case, OperationMade, open-tuple, open-call, open-builtin, operation-closes, ExprStackMade, made-operand, made-parens, made-list, made-case, made-until, made-statement, made-binding, BodyStackMade, made-arm, made-timeout, made-catch, made-function, made-before-arrow, at-want-expr, at-after-name, at-after-colon, at-want-operands, at-after-quote, at-after-bracket, at-after-spawn, at-after-receive, at-after-catch, at-have-expr, at-want-statement, at-want-pattern, at-top, Goes, when-goes, cond-goes, behind, reshape}
+use Rattle.grammar.proofs.Elements.{made-none, made-more, argument, plain-statement, binding-statement, clause-made, made-no-module, made-module, exprs-made, body-made}
+use Rattle.grammar.proofs.Made.{made-of-case, OperationMade, open-tuple, open-call, open-builtin, operation-closes, ExprStackMade, made-operand, made-parens, made-list, made-case, made-until, made-statement, made-binding, BodyStackMade, made-arm, made-timeout, made-catch, made-function, made-before-arrow, at-want-expr, at-after-name, at-after-colon, at-want-operands, at-after-quote, at-after-bracket, at-after-spawn, at-after-receive, at-after-catch, at-have-expr, at-want-statement, at-want-pattern, at-top, Goes, when-goes, cond-goes, behind, reshape}
 
 -- an expression of a level is one of any looser level
 pub loosen : {s : List Name} {e : Expr} (n m : ℕ) → m ≤ n → n ≤ 4 → ExprAt n s e → ExprAt m s e
@@ -86,7 +87,8 @@ pub reduce-sound :
     T (fits n k) → t ≤ n → n ≤ 4 → v ≡ u ++ s → ReducedAt t (reduce t e k) v
 reduce-sound (made-operand {m = m} {j = j} {a = a} {k = k} {u = u} {s = x} {w = w} st c g o q) t n e s v d f l most is =
     cond-all (λ r. ReducedAt t r v) (leb t m) (reduce t (binary j a e) k) (reduced e (operand m j a k))
-    (λ h. reduce-sound st t m (binary j a e) (x ++ (w ∷ s)) v applied c (leb→le t m (T-of h)) (omega (arith, tightness-at-most o))
+    (λ h. reduce-sound st t m (binary j a e) (x ++ (w ∷ s)) v applied c (leb→le t m (T-of h))
+        (omega (arith, tightness-at-most o))
         (is ∙ behind q s ∙ simp append-assoc))
     (λ h. unreduced (made-operand st c g o q) t n e s v d l most is (lt→ltb m t (leb-false t m h)))
   where
@@ -96,8 +98,10 @@ reduce-sound (made-parens st q) t n e s v d f l most is = unreduced (made-parens
 reduce-sound (made-list st o x q) t n e s v d f l most is = unreduced (made-list st o x q) t n e s v d l most is tt
 reduce-sound (made-case st q) t n e s v d f l most is = unreduced (made-case st q) t n e s v d l most is tt
 reduce-sound (made-until st x q) t n e s v d f l most is = unreduced (made-until st x q) t n e s v d l most is tt
-reduce-sound (made-statement st x q) t n e s v d f l most is = unreduced (made-statement st x q) t n e s v d l most is tt
-reduce-sound (made-binding st x y q) t n e s v d f l most is = unreduced (made-binding st x y q) t n e s v d l most is tt
+reduce-sound (made-statement st x q) t n e s v d f l most is =
+    unreduced (made-statement st x q) t n e s v d l most is tt
+reduce-sound (made-binding st x y q) t n e s v d f l most is =
+    unreduced (made-binding st x y q) t n e s v d l most is tt
 
 pub fits-tightest : {k : ExprStack} {u : List Name} → ExprStackMade k u → T (fits 4 k)
 fits-tightest (made-operand {m = m} st c g o q) = lt→ltb m 4 (omega (arith, tightness-at-most o))
@@ -122,7 +126,8 @@ shift-sound st (product o) e s v d b is = at-want-expr (made-operand st b d (pro
 
 -- a bracket closes a list of operands
 pub close-list-sound :
-    {k : ExprStack} {u : List Name} → ExprStackMade k u → (b c : Bracket) {j : Operation} {o : List Name} → OperationMade c j o →
+    {k : ExprStack} {u : List Name} → ExprStackMade k u → (b c : Bracket) {j : Operation} {o : List Name} →
+    OperationMade c j o →
     (s v : List Name) (es : Exprs) → ExprsOf s es → v ≡ u ++ (o ++ (s ++ (closing b ∷ []))) → Goes (close-list b c j es k) v
 close-list-sound st paren paren {j} op s v es d is =
     when-goes (arity-fits j es) _ v (λ h. at-have-expr st (operation-closes op s es d h) is)
@@ -137,7 +142,8 @@ pub close-body-sound :
     v ≡ u ++ (s ++ (close-brace ∷ [])) → Goes (close-body b k) v
 close-body-sound (made-arm st h c p q) s v b d is =
     at-want-pattern (made-before-arrow st h (made-more c (clause-made p d refl) refl) (is ∙ behind q _ ∙ simp append-assoc))
-close-body-sound (made-timeout st c e q) s v b d is = at-have-expr st (until-e c e d) (is ∙ behind q _ ∙ simp append-assoc)
+close-body-sound (made-timeout st c e q) s v b d is =
+    at-have-expr st (until-e c e d) (is ∙ behind q _ ∙ simp append-assoc)
 close-body-sound (made-catch st q) s v b d is = at-have-expr st (catch-e d) (is ∙ behind q _ ∙ simp append-assoc)
 close-body-sound (made-function made-no-module h n q) s v b d is = tt
 close-body-sound (made-function (made-module m h f e) g n q) s v b d is =
@@ -148,10 +154,12 @@ pub close-expr-sound :
     {k : ExprStack} {u : List Name} → ExprStackMade k u → (b : Bracket) (e : Expr) (s v : List Name) → ExprAt 0 s e →
     v ≡ u ++ (s ++ (closing b ∷ [])) → Goes (close-expr b e k) v
 close-expr-sound (made-operand st c g o q) b e s v d is = tt
-close-expr-sound (made-parens st q) paren e s v d is = at-have-expr st (brackets-e d) (is ∙ behind q _ ∙ simp append-assoc)
+close-expr-sound (made-parens st q) paren e s v d is =
+    at-have-expr st (brackets-e d) (is ∙ behind q _ ∙ simp append-assoc)
 close-expr-sound (made-parens st q) brace e s v d is = tt
 close-expr-sound (made-list {b = c} {s = x} st op a q) b e s v d is =
-    close-list-sound st b c op (x ++ s) v _ (exprs-made a s (and-e e no-e) tt (one-es d)) (is ∙ behind q _ ∙ simp append-assoc)
+    close-list-sound st b c op (x ++ s) v _ (exprs-made a s (and-e e no-e) tt (one-es d))
+    (is ∙ behind q _ ∙ simp append-assoc)
 close-expr-sound (made-case st q) b e s v d is = tt
 close-expr-sound (made-until st x q) b e s v d is = tt
 close-expr-sound (made-statement st a q) paren e s v d is = tt
@@ -235,12 +243,16 @@ after-expr-sound {k} {u} st e s d w (c-operator t m o) q =
     shift-sound (r .stack-made) (q .1) _ (r .s) _ (subst (λ x. ExprAt x (r .s) (reduce t e k .expr)) (q .0) (r .expr-at))
     (subst (λ x. T (below x (reduce t e k .stack))) (q .0) (r .nothing-waits)) (reshape u s (r .u) (r .s) w (r .is))
 after-expr-sound st e s d w (c-open paren) q = tt
-after-expr-sound st e s d w (c-open brace) q = after-all-sound st e s d w open-brace q open-block (λ k u i. open-block-sound i)
-after-expr-sound st e s d w (c-close b) q = after-all-sound st e s d w (closing b) q (close-expr b) (λ k u i. close-expr-sound i b)
+after-expr-sound st e s d w (c-open brace) q =
+    after-all-sound st e s d w open-brace q open-block (λ k u i. open-block-sound i)
+after-expr-sound st e s d w (c-close b) q =
+    after-all-sound st e s d w (closing b) q (close-expr b) (λ k u i. close-expr-sound i b)
 after-expr-sound st e s d w (c-builtin f) q = tt
 after-expr-sound st e s d w (c-start i) q = tt
-after-expr-sound st e s d w (c-separate s-comma) q = after-all-sound st e s d w comma q next-expr (λ k u i. next-expr-sound i)
-after-expr-sound st e s d w (c-separate s-semicolon) q = after-all-sound st e s d w semicolon q next-statement (λ k u i. next-statement-sound i)
+after-expr-sound st e s d w (c-separate s-comma) q =
+    after-all-sound st e s d w comma q next-expr (λ k u i. next-expr-sound i)
+after-expr-sound st e s d w (c-separate s-semicolon) q =
+    after-all-sound st e s d w semicolon q next-statement (λ k u i. next-statement-sound i)
 after-expr-sound st e s d w (c-separate s-equals) q = tt
 after-expr-sound st e s d w (c-separate s-arrow) q = tt
 after-expr-sound st e s d w c-other q = tt
@@ -250,10 +262,12 @@ pub start-expr-sound :
     {k : ExprStack} {u : List Name} → ExprStackMade k u → (w : Name) (c : Class) → Tells w c →
     Goes (start-expr k c) (u ++ (w ∷ []))
 start-expr-sound {u = u} st w (c-number n) q = at-have-expr st (int-e q) refl
-start-expr-sound {u = u} st w (c-name x) q = at-after-name st (subst (λ z. T (is-name z)) (sym (q .0)) (q .1)) (ap (λ z. u ++ (z ∷ [])) (sym (q .0)))
+start-expr-sound {u = u} st w (c-name x) q =
+    at-after-name st (subst (λ z. T (is-name z)) (sym (q .0)) (q .1)) (ap (λ z. u ++ (z ∷ [])) (sym (q .0)))
 start-expr-sound {u = u} st w (c-operator t m o) q = tt
 start-expr-sound {u = u} st w (c-open paren) q = at-want-expr (made-parens st (ap (λ z. u ++ (z ∷ [])) q))
-start-expr-sound {u = u} st w (c-open brace) q = at-want-expr (made-list st open-tuple made-none (ap (λ z. u ++ (z ∷ [])) q))
+start-expr-sound {u = u} st w (c-open brace) q =
+    at-want-expr (made-list st open-tuple made-none (ap (λ z. u ++ (z ∷ [])) q))
 start-expr-sound {u = u} st w (c-close b) q = close-empty-sound st b _ (ap (λ z. u ++ (z ∷ [])) q)
 start-expr-sound {u = u} st w (c-builtin f) q = at-want-operands (w ∷ []) st (open-builtin q) refl
 start-expr-sound {u = u} st w (c-start s-quote) q = at-after-quote st (ap (λ z. u ++ (z ∷ [])) q)
@@ -283,5 +297,7 @@ pub clauses-end-sound :
 clauses-end-sound {u = u} st cs s d w =
     cond-goes (same w k-until) _ _ _
     (λ e. at-want-expr (made-until st d
-        (ap (λ z. u ++ (k-receive ∷ open-brace ∷ ((s ++ (close-brace ∷ [])) ++ (z ∷ [])))) (same-is w k-until e) ∙ simp append-assoc)))
-    (after-expr-sound st (receive cs) (k-receive ∷ open-brace ∷ (s ++ (close-brace ∷ []))) (receive-e d) w (class-of w) (class-tells w))
+        (ap (λ z. u ++ (k-receive ∷ open-brace ∷ ((s ++ (close-brace ∷ [])) ++ (z ∷ [])))) (same-is w k-until e)
+        ∙ simp append-assoc)))
+    (after-expr-sound st (receive cs) (k-receive ∷ open-brace ∷ (s ++ (close-brace ∷ []))) (receive-e d) w (class-of w)
+        (class-tells w))

@@ -11,7 +11,8 @@ use Rattle.grammar.specs.Classes.{Bracket, paren, brace, closing, s-quote, s-b
 use Rattle.grammar.specs.Patterns.{close-clauses, reduce-pattern, close-pattern, next-pattern, bind-pattern, begin-arm, close-without, is-pair, start-pattern, after-pattern}
 use Rattle.grammar.specs.Stack.{clauses-of, Owner, ExprStack, PatternStack, State}
 use Rattle.grammar.proofs.Tokens.{Joins, comparison, pairing, sum, product, Tells}
-use Rattle.grammar.proofs.Made.{made-none, made-more, element, patterns-made, clauses-made, OwnerMade, made-of-case, made-of-receive, ExprStackMade, made-binding, PatternStackMade, made-cons, made-group, made-tuple, made-before-equals, made-before-arrow, StateMade, at-want-expr, at-after-clauses, at-have-expr, at-want-pattern, at-after-pattern-quote, at-after-pattern-bracket, at-have-pattern, at-after-arrow, Goes, when-goes, behind, reshape}
+use Rattle.grammar.proofs.Elements.{made-none, made-more, element, patterns-made, clauses-made}
+use Rattle.grammar.proofs.Made.{OwnerMade, made-of-case, made-of-receive, ExprStackMade, made-binding, PatternStackMade, made-cons, made-group, made-tuple, made-before-equals, made-before-arrow, StateMade, at-want-expr, at-after-clauses, at-have-expr, at-want-pattern, at-after-pattern-quote, at-after-pattern-bracket, at-have-pattern, at-after-arrow, Goes, when-goes, behind, reshape}
 
 -- :: puts the patterns that wait and the last one together
 pub reduce-pattern-sound :
@@ -31,7 +32,8 @@ pub close-pattern-sound :
     {k : PatternStack} {u : List Name} → PatternStackMade k u → (b : Bracket) (p : Pattern) (s v : List Name) → PatternAt 0 s p →
     v ≡ u ++ (s ++ (closing b ∷ [])) → Goes (close-pattern b p k) v
 close-pattern-sound (made-cons st g q) b p s v d is = tt
-close-pattern-sound (made-group st q) paren p s v d is = at-have-pattern st (brackets-x d) (is ∙ behind q _ ∙ simp append-assoc)
+close-pattern-sound (made-group st q) paren p s v d is =
+    at-have-pattern st (brackets-x d) (is ∙ behind q _ ∙ simp append-assoc)
 close-pattern-sound (made-group st q) brace p s v d is = tt
 close-pattern-sound (made-tuple st a q) paren p s v d is = tt
 close-pattern-sound (made-tuple st a q) brace p s v d is =
@@ -55,7 +57,8 @@ pub bind-pattern-sound :
 bind-pattern-sound (made-cons st g q) p s v d is = tt
 bind-pattern-sound (made-group st q) p s v d is = tt
 bind-pattern-sound (made-tuple st a q) p s v d is = tt
-bind-pattern-sound (made-before-equals st a q) p s v d is = at-want-expr (made-binding st a d (is ∙ behind q _ ∙ simp append-assoc))
+bind-pattern-sound (made-before-equals st a q) p s v d is =
+    at-want-expr (made-binding st a d (is ∙ behind q _ ∙ simp append-assoc))
 bind-pattern-sound (made-before-arrow st h a q) p s v d is = tt
 
 pub begin-arm-sound :
@@ -82,7 +85,8 @@ pub close-without-sound :
 close-without-sound (made-cons st g q) b v is = tt
 close-without-sound (made-group st q) b v is = tt
 close-without-sound (made-tuple st made-none q) paren v is = tt
-close-without-sound (made-tuple st made-none q) brace v is = at-have-pattern st (tuple-x no-x) (is ∙ behind q _ ∙ simp append-assoc)
+close-without-sound (made-tuple st made-none q) brace v is =
+    at-have-pattern st (tuple-x no-x) (is ∙ behind q _ ∙ simp append-assoc)
 close-without-sound (made-tuple st (made-more a d p) q) b v is = tt
 close-without-sound (made-before-equals st a q) b v is = tt
 close-without-sound (made-before-arrow st h a q) paren v is = tt
@@ -100,7 +104,8 @@ start-pattern-sound {u = u} st w (c-name x) q =
     at-have-pattern st (var-x (subst (λ z. T (is-name z)) (sym (q .0)) (q .1))) (ap (λ z. u ++ (z ∷ [])) (sym (q .0)))
 start-pattern-sound {u = u} st w (c-operator t m o) q = tt
 start-pattern-sound {u = u} st w (c-open paren) q = at-want-pattern (made-group st (ap (λ z. u ++ (z ∷ [])) q))
-start-pattern-sound {u = u} st w (c-open brace) q = at-want-pattern (made-tuple st made-none (ap (λ z. u ++ (z ∷ [])) q))
+start-pattern-sound {u = u} st w (c-open brace) q =
+    at-want-pattern (made-tuple st made-none (ap (λ z. u ++ (z ∷ [])) q))
 start-pattern-sound {u = u} st w (c-close b) q = close-without-sound st b _ (ap (λ z. u ++ (z ∷ [])) q)
 start-pattern-sound {u = u} st w (c-builtin f) q = tt
 start-pattern-sound {u = u} st w (c-start s-quote) q = at-after-pattern-quote st (ap (λ z. u ++ (z ∷ [])) q)
@@ -139,11 +144,15 @@ after-pattern-sound st p s d w (c-name x) q = tt
 after-pattern-sound {u = u} st p s d w (c-operator t m o) q =
     when-goes (is-pair o) _ _ (λ h. at-want-pattern (made-cons st d (ap (λ z. u ++ (s ++ (z ∷ []))) (pair-is-cons (q .1) h))))
 after-pattern-sound st p s d w (c-open b) q = tt
-after-pattern-sound st p s d w (c-close b) q = after-whole-sound st p s d w (closing b) q (close-pattern b) (λ k u i. close-pattern-sound i b)
+after-pattern-sound st p s d w (c-close b) q =
+    after-whole-sound st p s d w (closing b) q (close-pattern b) (λ k u i. close-pattern-sound i b)
 after-pattern-sound st p s d w (c-builtin f) q = tt
 after-pattern-sound st p s d w (c-start i) q = tt
-after-pattern-sound st p s d w (c-separate s-comma) q = after-whole-sound st p s d w comma q next-pattern (λ k u i. next-pattern-sound i)
+after-pattern-sound st p s d w (c-separate s-comma) q =
+    after-whole-sound st p s d w comma q next-pattern (λ k u i. next-pattern-sound i)
 after-pattern-sound st p s d w (c-separate s-semicolon) q = tt
-after-pattern-sound st p s d w (c-separate s-equals) q = after-whole-sound st p s d w equals q bind-pattern (λ k u i. bind-pattern-sound i)
-after-pattern-sound st p s d w (c-separate s-arrow) q = after-whole-sound st p s d w arrow q begin-arm (λ k u i. begin-arm-sound i)
+after-pattern-sound st p s d w (c-separate s-equals) q =
+    after-whole-sound st p s d w equals q bind-pattern (λ k u i. bind-pattern-sound i)
+after-pattern-sound st p s d w (c-separate s-arrow) q =
+    after-whole-sound st p s d w arrow q begin-arm (λ k u i. begin-arm-sound i)
 after-pattern-sound st p s d w c-other q = tt

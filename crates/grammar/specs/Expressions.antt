@@ -75,7 +75,8 @@ close-body b (in-arm p h xs k) = some (want-pattern (before-arrow h (snoc xs (ar
 close-body b (in-timeout cs e k) = some (have-expr (receive-until cs e b) k)
 close-body b (in-catch k) = some (have-expr (catch b) k)
 close-body b (in-function x ps no-module) = none
-close-body b (in-function x ps (in-module m y fs)) = some (top-level (in-module m y (snoc fs (record { name = x; params = ps; body = b }))))
+close-body b (in-function x ps (in-module m y fs)) =
+    some (top-level (in-module m y (snoc fs (record { name = x; params = ps; body = b }))))
 
 -- a closing bracket behind an expression
 abbrev pub close-expr : Bracket → Expr → ExprStack → Option State

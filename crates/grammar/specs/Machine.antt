@@ -66,7 +66,8 @@ clauses-end cs k w = cond (same w k-until) (some (want-expr (in-until cs k))) (a
 
 abbrev pub at-top-level : Modules → Name → Option State
 at-top-level no-module w = when (same w k-module) (after-module no-module)
-at-top-level (in-module m x fs) w = cond (same w k-module) (some (after-module (in-module m x fs))) (when (same w k-fn) (after-fn (in-module m x fs)))
+at-top-level (in-module m x fs) w =
+    cond (same w k-module) (some (after-module (in-module m x fs))) (when (same w k-fn) (after-fn (in-module m x fs)))
 
 -- one token; only where a statement begins do the tokens behind it count too
 abbrev pub step : State → Name → List Name → Option State
@@ -78,12 +79,16 @@ step (want-operands o k) w ws = when (same w open-paren) (want-expr (in-list par
 step (after-quote k) w ws = when (is-atom w) (have-expr (atom w) k)
 step (after-bracket k) w ws = when (same w close-bracket) (have-expr nil k)
 step (after-spawn k) w ws = when (is-name w) (after-spawn-name w k)
-step (after-spawn-name x k) w ws = cond (same w open-paren) (some (want-expr (in-list paren (spawn x) none-yet k))) (when (same w colon) (after-spawn-colon x k))
+step (after-spawn-name x k) w ws =
+    cond (same w open-paren) (some (want-expr (in-list paren (spawn x) none-yet k)))
+    (when (same w colon) (after-spawn-colon x k))
 step (after-spawn-colon m k) w ws = when (is-name w) (want-operands (far-spawn m w) k)
 step (after-receive k) w ws = when (same w open-brace) (want-pattern (before-arrow of-receive none-yet k))
 step (after-clauses cs k) w ws = clauses-end cs k w
 step (after-catch k) w ws = when (same w open-brace) (want-statement none-yet (in-catch k))
-step (want-statement xs k) w ws = cond (binds 0 (w ∷ ws)) (start-pattern (before-equals xs k) (class-of w)) (start-expr (in-statement xs k) (class-of w))
+step (want-statement xs k) w ws =
+    cond (binds 0 (w ∷ ws)) (start-pattern (before-equals xs k) (class-of w))
+    (start-expr (in-statement xs k) (class-of w))
 step (want-pattern k) w ws = start-pattern k (class-of w)
 step (have-pattern p k) w ws = after-pattern p k (class-of w)
 step (after-pattern-quote k) w ws = when (is-atom w) (have-pattern (p-atom w) k)
@@ -94,9 +99,13 @@ step (after-module m) w ws = when (is-name w) (after-module-name w m)
 step (after-module-name x m) w ws = when (same w semicolon) (top-level (in-module m x none-yet))
 step (after-fn m) w ws = when (is-name w) (after-fn-name w m)
 step (after-fn-name x m) w ws = when (same w open-paren) (want-parameter x none-yet m)
-step (want-parameter x none-yet m) w ws = cond (same w close-paren) (some (after-parameters x [] m)) (when (is-name w) (after-parameter x (snoc none-yet w) m))
+step (want-parameter x none-yet m) w ws =
+    cond (same w close-paren) (some (after-parameters x [] m))
+    (when (is-name w) (after-parameter x (snoc none-yet w) m))
 step (want-parameter x (snoc ps y) m) w ws = when (is-name w) (after-parameter x (snoc (snoc ps y) w) m)
-step (after-parameter x ps m) w ws = cond (same w comma) (some (want-parameter x ps m)) (when (same w close-paren) (after-parameters x (list-of ps []) m))
+step (after-parameter x ps m) w ws =
+    cond (same w comma) (some (want-parameter x ps m))
+    (when (same w close-paren) (after-parameters x (list-of ps []) m))
 step (after-parameters x ps m) w ws = when (same w open-brace) (want-statement none-yet (in-function x ps m))
 
 abbrev pub run : State → List Name → Option State

@@ -22,7 +22,8 @@ reduce-pattern p (before-arrow h xs k) f = f p (before-arrow h xs k)
 abbrev pub close-pattern : Bracket → Pattern → PatternStack → Option State
 close-pattern b p (in-cons a k) = none
 close-pattern b p (in-group k) = when (same-bracket b paren) (have-pattern p k)
-close-pattern b p (in-tuple xs k) = when (same-bracket b brace) (have-pattern (p-tuple (patterns-of xs (and-p p no-p))) k)
+close-pattern b p (in-tuple xs k) =
+    when (same-bracket b brace) (have-pattern (p-tuple (patterns-of xs (and-p p no-p))) k)
 close-pattern b p (before-equals xs k) = none
 close-pattern b p (before-arrow h xs k) = none
 
