@@ -38,7 +38,7 @@ read-sound t g e =
     let parsed = on-some-is (parse (tokens gap t)) checked g (within .1) in
     let good = tested (has-main (parsed .0) && sound-modules (parsed .0)) (some (parsed .0)) g (parsed .2) in
     let reads : Reads t (parsed .0) =
-        record { said = sound (tokens gap t) (parsed .0) (parsed .1); small = within .0; sound = good .0 } in
+    record { said = sound (tokens gap t) (parsed .0) (parsed .1); small = within .0; sound = good .0 } in
     subst (Reads t) (some-is (good .1)) reads
 
 pub read-exactly : Read-exactly

@@ -76,8 +76,8 @@ step-sound (at-after-pattern-bracket {u = u} st q) w ws =
 step-sound (at-after-arrow {u = u} {o = o} {s = s} {y = y} st h c d q) w ws =
     when-goes (same w open-brace) _ _
     (λ g. at-want-statement (made-arm st h c d refl) made-none
-        (followed-by u (o ++ (s ++ (y ++ (arrow ∷ [])))) q w open-brace g
-        ∙ simp (append-assoc, append-nil)))
+    (followed-by u (o ++ (s ++ (y ++ (arrow ∷ [])))) q w open-brace g
+    ∙ simp (append-assoc, append-nil)))
 step-sound (at-top st) w ws = at-top-level-sound st w
 step-sound (at-after-module {u = u} st q) w ws =
     when-goes (is-name w) _ _ (λ g. at-after-module-name st g (followed u (k-module ∷ []) q w))
@@ -97,22 +97,22 @@ step-sound (at-want-parameter {u = u} {s = s} {x = x} st h (made-more n p e) q) 
 step-sound (at-after-parameter {u = u} {s = s} {x = x} {y = y} st h n p q) w ws =
     cond-goes (same w comma) _ _ _
     (λ g. at-want-parameter st h (made-more n (parameter p refl) refl)
-        (followed-by u (k-fn ∷ x ∷ open-paren ∷ (s ++ (y ∷ []))) q w comma g ∙ simp append-assoc))
+    (followed-by u (k-fn ∷ x ∷ open-paren ∷ (s ++ (y ∷ []))) q w comma g ∙ simp append-assoc))
     (when-goes (same w close-paren) _ _
-        (λ g. at-after-parameters st h (names-made n (y ∷ []) (y ∷ []) tt (one-n p))
-            (followed-by u (k-fn ∷ x ∷ open-paren ∷ (s ++ (y ∷ []))) q w close-paren g)))
+    (λ g. at-after-parameters st h (names-made n (y ∷ []) (y ∷ []) tt (one-n p))
+    (followed-by u (k-fn ∷ x ∷ open-paren ∷ (s ++ (y ∷ []))) q w close-paren g)))
 step-sound (at-after-parameters {u = u} {s = s} {x = x} st h n q) w ws =
     when-goes (same w open-brace) _ _
     (λ g. at-want-statement (made-function st h n refl) made-none
-        (followed-by u (k-fn ∷ x ∷ open-paren ∷ (s ++ (close-paren ∷ []))) q w open-brace g
-        ∙ simp (append-assoc, append-nil)))
+    (followed-by u (k-fn ∷ x ∷ open-paren ∷ (s ++ (close-paren ∷ []))) q w open-brace g
+    ∙ simp (append-assoc, append-nil)))
 
 pub run-sound : (ws : List Name) (x : State) (v : List Name) → StateMade x v → Goes (run x ws) (v ++ ws)
 run-sound [] x v i = subst (StateMade x) (sym (append-nil v)) i
 run-sound (w ∷ ws) x v i =
     subst (Goes (run x (w ∷ ws))) (append-assoc v (w ∷ []) ws)
     (on-some-all (λ y. StateMade y (v ++ (w ∷ []))) (λ y. StateMade y ((v ++ (w ∷ [])) ++ ws)) (step x w ws) (λ y. run y ws)
-        (step-sound i w ws) (λ y j. run-sound ws y (v ++ (w ∷ [])) j))
+    (step-sound i w ws) (λ y j. run-sound ws y (v ++ (w ∷ [])) j))
 
 -- a program ends between functions: in every other state there is none
 pub program-at-sound :

@@ -88,8 +88,8 @@ pub reduce-sound :
 reduce-sound (made-operand {m = m} {j = j} {a = a} {k = k} {u = u} {s = x} {w = w} st c g o q) t n e s v d f l most is =
     cond-all (λ r. ReducedAt t r v) (leb t m) (reduce t (binary j a e) k) (reduced e (operand m j a k))
     (λ h. reduce-sound st t m (binary j a e) (x ++ (w ∷ s)) v applied c (leb→le t m (T-of h))
-        (omega (arith, tightness-at-most o))
-        (is ∙ behind q s ∙ simp append-assoc))
+    (omega (arith, tightness-at-most o))
+    (is ∙ behind q s ∙ simp append-assoc))
     (λ h. unreduced (made-operand st c g o q) t n e s v d l most is (lt→ltb m t (leb-false t m h)))
   where
     applied : ExprAt m (x ++ (w ∷ s)) (binary j a e)
@@ -224,7 +224,7 @@ pub after-all-sound :
     {k : ExprStack} {u : List Name} → ExprStackMade k u → (e : Expr) (s : List Name) → ExprAt 4 s e →
     (w x : Name) → w ≡ x → (f : Expr → ExprStack → Option State) →
     ((k : ExprStack) (u : List Name) → ExprStackMade k u → (e : Expr) (s v : List Name) → ExprAt 0 s e →
-        v ≡ u ++ (s ++ (x ∷ [])) → Goes (f e k) v) →
+    v ≡ u ++ (s ++ (x ∷ [])) → Goes (f e k) v) →
     Goes (f (reduce 0 e k .expr) (reduce 0 e k .stack)) (u ++ (s ++ (w ∷ [])))
 after-all-sound {u = u} st e s d w x q f sound =
     let r = reduce-sound st 0 4 e s (u ++ s) d (fits-tightest st) (omega arith) (omega arith) refl in
@@ -288,7 +288,7 @@ name-ends-sound {u = u} st x h w =
     cond-goes (same w open-paren) _ _ _
     (λ e. at-want-expr (made-list st (open-call h) made-none (ap (λ z. u ++ (x ∷ z ∷ [])) (same-is w open-paren e))))
     (cond-goes (same w colon) _ _ _ (λ e. at-after-colon st h (ap (λ z. u ++ (x ∷ z ∷ [])) (same-is w colon e)))
-        (after-expr-sound st (var x) (x ∷ []) (var-e h) w (class-of w) (class-tells w)))
+    (after-expr-sound st (var x) (x ∷ []) (var-e h) w (class-of w) (class-tells w)))
 
 -- behind the clauses of a receive: until, or what may follow an expression
 pub clauses-end-sound :
@@ -297,7 +297,7 @@ pub clauses-end-sound :
 clauses-end-sound {u = u} st cs s d w =
     cond-goes (same w k-until) _ _ _
     (λ e. at-want-expr (made-until st d
-        (ap (λ z. u ++ (k-receive ∷ open-brace ∷ ((s ++ (close-brace ∷ [])) ++ (z ∷ [])))) (same-is w k-until e)
-        ∙ simp append-assoc)))
+    (ap (λ z. u ++ (k-receive ∷ open-brace ∷ ((s ++ (close-brace ∷ [])) ++ (z ∷ [])))) (same-is w k-until e)
+    ∙ simp append-assoc)))
     (after-expr-sound st (receive cs) (k-receive ∷ open-brace ∷ (s ++ (close-brace ∷ []))) (receive-e d) w (class-of w)
-        (class-tells w))
+    (class-tells w))

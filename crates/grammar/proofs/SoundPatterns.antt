@@ -123,7 +123,7 @@ pub after-whole-sound :
     {k : PatternStack} {u : List Name} → PatternStackMade k u → (p : Pattern) (s : List Name) → PatternAt 1 s p →
     (w x : Name) → w ≡ x → (f : Pattern → PatternStack → Option State) →
     ((k : PatternStack) (u : List Name) → PatternStackMade k u → (p : Pattern) (s v : List Name) → PatternAt 0 s p →
-        v ≡ u ++ (s ++ (x ∷ [])) → Goes (f p k) v) →
+    v ≡ u ++ (s ++ (x ∷ [])) → Goes (f p k) v) →
     Goes (reduce-pattern p k f) (u ++ (s ++ (w ∷ [])))
 after-whole-sound {u = u} st p s d w x q f sound =
     reduce-pattern-sound st p s (u ++ s) (plain-x d) refl f _

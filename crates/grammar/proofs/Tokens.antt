@@ -24,7 +24,7 @@ differ P x y h q = is-false (same x y) (λ e. q (subst P (same-is x y e) h))
 pub class-number : (w : Name) (n : ℕ) → Number w n → class-of w ≡ c-number n
 class-number w n h =
     let e : number-of w ≡ some n =
-        ap (λ b. cond b (number-from 0 w) none) (is-true (leb 1 (length w) && leb (length w) 18) (h .0)) ∙ h .1 in
+    ap (λ b. cond b (number-from 0 w) none) (is-true (leb 1 (length w) && leb (length w) 18) (h .0)) ∙ h .1 in
     ap (λ o. opt o (cond (is-name w) (c-name w) (class-in table w)) c-number) e
 
 pub no-number : (w : Name) → T (not (digit-first w)) → number-of w ≡ none
@@ -41,10 +41,10 @@ no-number (c ∷ cs) h =
 pub name-no-digit : (w : Name) → T (is-name w) → T (not (digit-first w))
 name-no-digit w h =
     let short =
-        and-T (leb 1 (length w))
-        (leb (length w) 32 && (all-letters w && (not (digit-first w) && not (listed w keywords)))) h in
+    and-T (leb 1 (length w))
+    (leb (length w) 32 && (all-letters w && (not (digit-first w) && not (listed w keywords)))) h in
     let plain =
-        and-T (leb (length w) 32) (all-letters w && (not (digit-first w) && not (listed w keywords))) (short .1) in
+    and-T (leb (length w) 32) (all-letters w && (not (digit-first w) && not (listed w keywords))) (short .1) in
     let word = and-T (all-letters w) (not (digit-first w) && not (listed w keywords)) (plain .1) in
     and-T (not (digit-first w)) (not (listed w keywords)) (word .1) .0
 
@@ -105,7 +105,6 @@ Tells w (c-separate s) = w ≡ separator s
 Tells w c-other = Unit {0}
 
 infixr 5 _also_
-
 -- what the classes tell holds of each entry
 pub data All-tell : List Entry → Type 0 where
   no-more : All-tell []
@@ -145,7 +144,7 @@ pub class-tells : (w : Name) → Tells w (class-of w)
 class-tells w =
     opt-all (Tells w) (number-of w) (cond (is-name w) (c-name w) (class-in table w)) c-number
     (λ e. cond-all (Tells w) (is-name w) (c-name w) (class-in table w) (λ h. (refl, T-of h))
-        (λ h. class-in-tells table-tells w))
+    (λ h. class-in-tells table-tells w))
     (λ n e. is-number n (leb 1 (length w) && leb (length w) 18) refl e)
   where
     is-number :
