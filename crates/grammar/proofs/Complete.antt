@@ -9,7 +9,7 @@ use Rattle.meaning.specs.Syntax.{Function, Program}
 use Rattle.meaning.specs.Grammar.{k-module, open-paren, close-paren, open-brace, close-brace, comma, semicolon, is-name, NamesOf, no-n, one-n, more-n, FunctionOf, function-x, FunctionsOf, no-f, more-f, ModulesOf, no-m, more-m}
 use Rattle.grammar.specs.Machine.{at-top-level, run, program-at, parse}
 use Rattle.grammar.specs.Stack.{Snoc, none-yet, snoc, list-of, Modules, no-module, in-module, module-of, program-of, in-function, top-level, after-module, after-module-name, after-fn-name, want-parameter, after-parameter, after-parameters}
-use Rattle.grammar.proofs.Tokens.{differ}
+use Rattle.grammar.proofs.Classes.{differ}
 use Rattle.grammar.proofs.ReadsPatterns.{then-run}
 use Rattle.grammar.proofs.ReadsExprs.{then-when, reads-body}
 

@@ -13,7 +13,8 @@ use Rattle.meaning.specs.Bound.{has-main, sound-modules}
 use Rattle.meaning.specs.Grammar.{Reads}
 use Rattle.grammar.specs.Promise.{Parse-exactly, Read-exactly, No-program}
 use Rattle.meaning.specs.Promise.{One-program}
-use Rattle.grammar.specs.Machine.{parse, within-limits, checked, read}
+use Rattle.grammar.specs.Machine.{parse}
+use Rattle.grammar.specs.Reading.{within-limits, checked, read}
 use Rattle.meaning.proofs.Splits.{is-true, cond-true, some-is, none-some, on-some-is}
 use Rattle.grammar.proofs.Complete.{complete}
 use Rattle.grammar.proofs.Sound.{sound}

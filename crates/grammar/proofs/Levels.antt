@@ -15,7 +15,7 @@ use Rattle.grammar.specs.Machine.{name-ends, clauses-end}
 use Rattle.grammar.specs.Patterns.{is-pair, after-pattern}
 use Rattle.grammar.specs.Stack.{ExprStack, operand, in-parens, in-list, in-case, in-until, in-statement, in-binding, PatternStack, in-cons}
 use Rattle.meaning.proofs.Splits.{eqb-isnt, is-true, and-T}
-use Rattle.grammar.proofs.Tokens.{differ}
+use Rattle.grammar.proofs.Classes.{differ}
 
 -- what may stand behind an expression of level n: an operator that no operator of this level takes as its own
 abbrev pub follows : ℕ → Class → Bool

@@ -1,5 +1,5 @@
--- Tokens and levels; then complete (LookAhead to Complete), sound (Elements to Sound), and both for whole texts.
-pub mod Tokens
+-- What classes and levels say; then complete (LookAhead to Complete), sound (Elements to Sound), and both for whole texts.
+pub mod Classes
 pub mod Levels
 pub mod LookAhead
 pub mod ReadsPatterns

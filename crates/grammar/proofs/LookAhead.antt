@@ -8,8 +8,8 @@ use Rattle.meaning.specs.Basics.{Name}
 use Rattle.meaning.specs.Syntax.{Pattern, Patterns, Operator, Builtin, Expr, Exprs, Body, Clauses}
 use Rattle.meaning.specs.Grammar.{k-until, open-paren, close-paren, open-brace, close-brace, semicolon, colon, equals, arrow, is-name, is-atom, Number, Infix, plus-sign, minus-sign, times-sign, divide-sign, modulo-sign, equal-sign, unequal-sign, less-sign, at-most-sign, Builtin-word, PatternAt, cons-x, plain-x, any-x, var-x, int-x, atom-x, tuple-x, nil-x, brackets-x, PatternsOf, no-x, one-x, more-x, ExprAt, looser, compare-e, cons-e, sum-e, product-e, int-e, atom-e, var-e, nil-e, tuple-e, brackets-e, call-e, far-e, spawn-e, spawn-far-e, builtin-e, case-e, receive-e, until-e, catch-e, ExprsOf, none-es, one-es, more-es, BodyOf, last-b, then-b, bind-b, ClausesOf, no-cs, more-cs}
 use Rattle.grammar.specs.Classes.{class-of}
-use Rattle.grammar.specs.Machine.{landmark, l-none, pass, binds}
-use Rattle.grammar.proofs.Tokens.{class-number, atom-letters, class-name, class-builtin, letters-none}
+use Rattle.grammar.specs.LookAhead.{landmark, l-none, pass, binds}
+use Rattle.grammar.proofs.Classes.{class-number, atom-letters, class-name, class-builtin, letters-none}
 
 -- a token that is no landmark
 pub pass-over : (d : ℕ) (w : Name) (ws : List Name) → landmark (class-of w) ≡ l-none → binds d (w ∷ ws) ≡ binds d ws

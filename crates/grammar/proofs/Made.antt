@@ -13,7 +13,7 @@ use Rattle.grammar.specs.Classes.{Bracket, paren, brace, closing}
 use Rattle.grammar.specs.Expressions.{takes, arity-fits}
 use Rattle.grammar.specs.Stack.{Snoc, snoc, Statement, Arm, Modules, Owner, of-case, of-receive, ExprStack, operand, in-parens, in-list, in-case, in-until, in-statement, in-binding, BodyStack, in-arm, in-timeout, in-catch, in-function, PatternStack, in-cons, in-group, in-tuple, before-equals, before-arrow, State, want-expr, have-expr, after-name, after-colon, want-operands, after-quote, after-bracket, after-spawn, after-spawn-name, after-spawn-colon, after-receive, after-clauses, after-catch, want-statement, want-pattern, have-pattern, after-pattern-quote, after-pattern-bracket, after-arrow, top-level, after-module, after-module-name, after-fn, after-fn-name, want-parameter, after-parameter, after-parameters, when}
 use Rattle.meaning.proofs.Splits.{T-of, cond-all, same-is, OnSome}
-use Rattle.grammar.proofs.Tokens.{Joins, left-level}
+use Rattle.grammar.proofs.Classes.{Joins, left-level}
 use Rattle.grammar.proofs.Levels.{fits}
 use Rattle.grammar.proofs.Elements.{Made, Argument, Element, Parameter, StatementMade, ClauseMade, ModulesMade}
 

@@ -12,11 +12,12 @@ use Rattle.meaning.specs.Syntax.{p-any, Operation, make-tuple, make-pair, call,
 use Rattle.meaning.specs.Grammar.{k-until, open-paren, close-paren, open-brace, close-brace, comma, semicolon, colon, equals, arrow, double-colon, is-name, is-atom, ExprAt, looser, compare-e, cons-e, sum-e, product-e, int-e, atom-e, var-e, nil-e, tuple-e, brackets-e, call-e, far-e, spawn-e, spawn-far-e, builtin-e, case-e, receive-e, until-e, catch-e, ExprsOf, none-es, one-es, more-es, BodyOf, last-b, then-b, bind-b, ClausesOf, no-cs, more-cs}
 use Rattle.grammar.specs.Classes.{Bracket, paren, brace, closing, c-operator, class-of}
 use Rattle.grammar.specs.Expressions.{binary, Reduced, reduced, reduce, shift, takes, arity-fits, close-list, close-body, start-expr, after-expr}
-use Rattle.grammar.specs.Machine.{binds, run}
+use Rattle.grammar.specs.LookAhead.{binds}
+use Rattle.grammar.specs.Machine.{run}
 use Rattle.grammar.specs.Patterns.{close-clauses}
 use Rattle.grammar.specs.Stack.{Snoc, none-yet, snoc, Statement, statement, Arm, arm, exprs-of, body-of, clauses-of, Owner, of-case, of-receive, ExprStack, operand, in-parens, in-list, in-case, in-until, in-statement, in-binding, BodyStack, in-arm, in-timeout, in-catch, before-equals, before-arrow, State, want-expr, have-expr, after-name, want-operands, after-spawn-name, want-statement, want-pattern, when}
 use Rattle.meaning.proofs.Splits.{is-true}
-use Rattle.grammar.proofs.Tokens.{class-number, class-name, class-comparison, class-sum, class-product, class-builtin, builtin-takes}
+use Rattle.grammar.proofs.Classes.{class-number, class-name, class-comparison, class-sum, class-product, class-builtin, builtin-takes}
 use Rattle.grammar.proofs.Levels.{follows, follows-looser, follows-as, fits, fits-looser, reduce-stays, not-comparing, after-operand, name-is-variable, no-until}
 use Rattle.grammar.proofs.LookAhead.{pass-pattern, pass-expr}
 use Rattle.grammar.proofs.ReadsPatterns.{then-run, reads-pattern}

@@ -14,7 +14,7 @@ use Rattle.grammar.specs.Machine.{run}
 use Rattle.grammar.specs.Patterns.{start-pattern, after-pattern}
 use Rattle.grammar.specs.Stack.{Snoc, none-yet, snoc, patterns-of, PatternStack, in-cons, in-group, in-tuple, State, want-pattern, have-pattern, when}
 use Rattle.meaning.proofs.Splits.{is-true}
-use Rattle.grammar.proofs.Tokens.{class-number, class-name}
+use Rattle.grammar.proofs.Classes.{class-number, class-name}
 use Rattle.grammar.proofs.Levels.{follows-pattern, follows-plain, after-cons}
 
 -- go on with the tokens, if the machine goes on

@@ -7,11 +7,12 @@ use Rattle.meaning.specs.Syntax.{Program}
 use Rattle.meaning.specs.Grammar.{k-module, k-fn, k-receive, k-catch, k-spawn, open-paren, close-paren, open-bracket, close-bracket, open-brace, close-brace, comma, semicolon, colon, quote, arrow, is-name, is-atom, no-n, one-n, atom-x, nil-x, atom-e, nil-e, ModulesOf, no-m}
 use Rattle.grammar.specs.Classes.{class-of}
 use Rattle.grammar.specs.Expressions.{after-expr}
-use Rattle.grammar.specs.Machine.{binds, name-ends, clauses-end, at-top-level, step, run, program-at, parse}
+use Rattle.grammar.specs.LookAhead.{binds}
+use Rattle.grammar.specs.Machine.{name-ends, clauses-end, at-top-level, step, run, program-at, parse}
 use Rattle.grammar.specs.Patterns.{after-pattern}
 use Rattle.grammar.specs.Stack.{Modules, no-module, program-of, State, top-level}
 use Rattle.meaning.proofs.Splits.{some-is, none-some, same-is, on-some-all}
-use Rattle.grammar.proofs.Tokens.{class-tells}
+use Rattle.grammar.proofs.Classes.{class-tells}
 use Rattle.grammar.proofs.Elements.{made-none, made-more, parameter, ModulesMade, made-no-module, made-module, names-made, modules-made}
 use Rattle.grammar.proofs.Made.{made-of-receive, open-far, open-spawn, open-far-spawn, made-list, made-statement, made-arm, made-catch, made-function, made-before-equals, made-before-arrow, StateMade, at-want-expr, at-after-name, at-after-colon, at-want-operands, at-after-quote, at-after-bracket, at-after-spawn, at-after-spawn-name, at-after-spawn-colon, at-after-receive, at-after-clauses, at-after-catch, at-have-expr, at-want-statement, at-want-pattern, at-after-pattern-quote, at-after-pattern-bracket, at-have-pattern, at-after-arrow, at-top, at-after-module, at-after-module-name, at-after-fn, at-after-fn-name, at-want-parameter, at-after-parameter, at-after-parameters, Goes, when-goes, cond-goes, followed, followed-by}
 use Rattle.grammar.proofs.SoundExprs.{start-expr-sound, after-expr-sound, name-ends-sound, clauses-end-sound}

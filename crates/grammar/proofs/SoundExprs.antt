@@ -17,7 +17,7 @@ use Rattle.grammar.specs.Expressions.{binary, Reduced, reduced, reduce, compar
 use Rattle.grammar.specs.Machine.{name-ends, clauses-end}
 use Rattle.grammar.specs.Stack.{ExprStack, operand, BodyStack, State, want-expr}
 use Rattle.meaning.proofs.Splits.{T-of, cond-all, bool-all, same-is}
-use Rattle.grammar.proofs.Tokens.{Joins, comparison, pairing, sum, product, left-level, right-level, Tells, class-tells}
+use Rattle.grammar.proofs.Classes.{Joins, comparison, pairing, sum, product, left-level, right-level, Tells, class-tells}
 use Rattle.grammar.proofs.Levels.{ceiling, below, fits, may-compare}
 use Rattle.grammar.proofs.Elements.{made-none, made-more, argument, plain-statement, binding-statement, clause-made, made-no-module, made-module, exprs-made, body-made}
 use Rattle.grammar.proofs.Made.{made-of-case, OperationMade, open-tuple, open-call, open-builtin, operation-closes, ExprStackMade, made-operand, made-parens, made-list, made-case, made-until, made-statement, made-binding, BodyStackMade, made-arm, made-timeout, made-catch, made-function, made-before-arrow, at-want-expr, at-after-name, at-after-colon, at-want-operands, at-after-quote, at-after-bracket, at-after-spawn, at-after-receive, at-after-catch, at-have-expr, at-want-statement, at-want-pattern, at-top, Goes, when-goes, cond-goes, behind, reshape}

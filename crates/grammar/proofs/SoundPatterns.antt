@@ -10,7 +10,7 @@ use Rattle.meaning.specs.Grammar.{close-brace, comma, equals, arrow, double-col
 use Rattle.grammar.specs.Classes.{Bracket, paren, brace, closing, s-quote, s-bracket, s-underscore, s-case, s-receive, s-catch, s-spawn, s-comma, s-semicolon, s-equals, s-arrow, Class, c-number, c-name, c-operator, c-open, c-close, c-builtin, c-start, c-separate, c-other}
 use Rattle.grammar.specs.Patterns.{close-clauses, reduce-pattern, close-pattern, next-pattern, bind-pattern, begin-arm, close-without, is-pair, start-pattern, after-pattern}
 use Rattle.grammar.specs.Stack.{clauses-of, Owner, ExprStack, PatternStack, State}
-use Rattle.grammar.proofs.Tokens.{Joins, comparison, pairing, sum, product, Tells}
+use Rattle.grammar.proofs.Classes.{Joins, comparison, pairing, sum, product, Tells}
 use Rattle.grammar.proofs.Elements.{made-none, made-more, element, patterns-made, clauses-made}
 use Rattle.grammar.proofs.Made.{OwnerMade, made-of-case, made-of-receive, ExprStackMade, made-binding, PatternStackMade, made-cons, made-group, made-tuple, made-before-equals, made-before-arrow, StateMade, at-want-expr, at-after-clauses, at-have-expr, at-want-pattern, at-after-pattern-quote, at-after-pattern-bracket, at-have-pattern, at-after-arrow, Goes, when-goes, behind, reshape}
 

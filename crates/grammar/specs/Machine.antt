@@ -1,58 +1,15 @@
 -- The push-down machine: it takes one token at a time, and goes on or refuses.
--- `parse` is the program that tokens are, if they are one; `read` that of a text.
-use mathlib.Core.Bool.{Bool, true, false, _&&_, cond}
+use mathlib.Core.Bool.{cond}
 use mathlib.Core.List.{List, [], _∷_}
 use mathlib.Core.Option.{Option, some, none}
-use Prim.Native.Nat.{ℕ, zero, suc}
-use lib.ListN.{length}
-use lib.Dec.{leb}
 use Rattle.meaning.specs.Basics.{on-some, Name, same}
 use Rattle.meaning.specs.Syntax.{p-nil, p-atom, far-call, call, spawn, far-spawn, atom, var, nil, receive, Clauses, Program}
-use Rattle.meaning.specs.Tokens.{gap, tokens}
-use Rattle.meaning.specs.Bound.{has-main, sound-modules}
-use Rattle.meaning.specs.Grammar.{k-module, k-fn, k-until, open-paren, close-paren, close-bracket, open-brace, comma, semicolon, colon, is-name, is-atom, shallow}
-use Rattle.grammar.specs.Classes.{paren, Class, c-number, c-name, c-operator, c-open, c-close, c-builtin, c-start, c-separate, c-other, s-comma, s-semicolon, s-equals, s-arrow, class-of}
-use Rattle.grammar.specs.Stack.{none-yet, snoc, list-of, Modules, no-module, in-module, program-of, of-receive, ExprStack, in-list, in-until, in-statement, in-arm, in-catch, in-function, before-equals, before-arrow, State, want-expr, have-expr, after-name, after-colon, want-operands, after-quote, after-bracket, after-spawn, after-spawn-name, after-spawn-colon, after-receive, after-clauses, after-catch, want-statement, want-pattern, have-pattern, after-pattern-quote, after-pattern-bracket, after-arrow, top-level, after-module, after-module-name, after-fn, after-fn-name, want-parameter, after-parameter, after-parameters, when}
+use Rattle.meaning.specs.Grammar.{k-module, k-fn, k-until, open-paren, close-paren, close-bracket, open-brace, comma, semicolon, colon, is-name, is-atom}
+use Rattle.grammar.specs.Classes.{paren, class-of}
 use Rattle.grammar.specs.Expressions.{start-expr, after-expr}
+use Rattle.grammar.specs.LookAhead.{binds}
 use Rattle.grammar.specs.Patterns.{start-pattern, after-pattern}
-
--- what a token is to who looks for the = of a statement
-pub data Landmark : Type 0 where
-  l-open : Landmark
-  l-close : Landmark
-  l-equals : Landmark
-  l-semicolon : Landmark
-  l-none : Landmark
-
-abbrev pub landmark : Class → Landmark
-landmark (c-number n) = l-none
-landmark (c-name x) = l-none
-landmark (c-operator t m o) = l-none
-landmark (c-open b) = l-open
-landmark (c-close b) = l-close
-landmark (c-builtin f) = l-none
-landmark (c-start s) = l-none
-landmark (c-separate s-comma) = l-none
-landmark (c-separate s-semicolon) = l-semicolon
-landmark (c-separate s-equals) = l-equals
-landmark (c-separate s-arrow) = l-none
-landmark c-other = l-none
-
--- go on with the depth of brackets after a landmark, or stop: yes at an = outside of brackets, no at the statement's end
-abbrev pub pass : ℕ → Landmark → (ℕ → Bool) → Bool
-pass d l-open f = f (suc d)
-pass zero l-close f = false
-pass (suc d) l-close f = f d
-pass zero l-equals f = true
-pass (suc d) l-equals f = f (suc d)
-pass zero l-semicolon f = false
-pass (suc d) l-semicolon f = f (suc d)
-pass d l-none f = f d
-
--- does the statement that begins here bind: is there an = before its end, outside of brackets
-abbrev pub binds : ℕ → List Name → Bool
-binds d [] = false
-binds d (w ∷ ws) = pass d (landmark (class-of w)) (λ n. binds n ws)
+use Rattle.grammar.specs.Stack.{none-yet, snoc, list-of, Modules, no-module, in-module, program-of, of-receive, ExprStack, in-list, in-until, in-statement, in-arm, in-catch, in-function, before-equals, before-arrow, State, want-expr, have-expr, after-name, after-colon, want-operands, after-quote, after-bracket, after-spawn, after-spawn-name, after-spawn-colon, after-receive, after-clauses, after-catch, want-statement, want-pattern, have-pattern, after-pattern-quote, after-pattern-bracket, after-arrow, top-level, after-module, after-module-name, after-fn, after-fn-name, want-parameter, after-parameter, after-parameters, when}
 
 -- a token behind a name: a call, a name in another module, or the name is a variable
 abbrev pub name-ends : Name → ExprStack → Name → Option State
@@ -145,15 +102,3 @@ program-at (after-parameters x ps m) = none
 -- the program that tokens are, if they are one
 abbrev pub parse : List Name → Option Program
 parse s = on-some (run (top-level no-module) s) program-at
-
--- the size of a text, and how deep its brackets go
-abbrev pub within-limits : List ℕ → Bool
-within-limits t = leb (length t) 32768 && shallow 0 (tokens gap t)
-
--- every name is bound, no two functions are alike, and main is there
-abbrev pub checked : Program → Option Program
-checked g = cond (has-main g && sound-modules g) (some g) none
-
--- the program that a text is, if it is one
-abbrev pub read : List ℕ → Option Program
-read t = cond (within-limits t) (on-some (parse (tokens gap t)) checked) none

@@ -7,7 +7,8 @@ use Prim.Native.Nat.{ℕ}
 use Rattle.meaning.specs.Basics.{Name}
 use Rattle.meaning.specs.Syntax.{Program}
 use Rattle.meaning.specs.Grammar.{ModulesOf, Reads}
-use Rattle.grammar.specs.Machine.{parse, read}
+use Rattle.grammar.specs.Machine.{parse}
+use Rattle.grammar.specs.Reading.{read}
 
 -- tokens are the program g exactly if the machine gives g
 abbrev pub Parse-exactly : Type 0

@@ -13,7 +13,7 @@ use Rattle.meaning.specs.Tokens.{is-digit}
 use Rattle.meaning.specs.Grammar.{keywords, k-case, k-receive, k-catch, k-spawn, k-exit, underscore, open-bracket, comma, semicolon, equals, quote, arrow, double-colon, all-letters, digit-first, is-name, is-atom, number-from, Number, Infix, plus-sign, minus-sign, times-sign, divide-sign, modulo-sign, equal-sign, unequal-sign, less-sign, at-most-sign, Builtin-word, send-word, self-word, link-word, exit-word, exit-to-word, trap-word, show-word, name-word, where-word, swap-word}
 use Rattle.grammar.specs.Classes.{Bracket, paren, brace, opening, closing, Starter, s-quote, s-bracket, s-underscore, s-case, s-receive, s-catch, s-spawn, Separator, s-comma, s-semicolon, s-equals, s-arrow, Class, c-number, c-name, c-operator, c-open, c-close, c-builtin, c-start, c-separate, c-other, Entry, table, class-in, number-of, class-of}
 use Rattle.grammar.specs.Expressions.{takes}
-use Rattle.grammar.specs.Machine.{landmark, l-none}
+use Rattle.grammar.specs.LookAhead.{landmark, l-none}
 use Rattle.meaning.proofs.Splits.{T-of, is-true, is-false, and-T, cond-all, opt-all, bool-all, none-some, same-is}
 
 -- what holds of one token and not of another tells them apart
