@@ -37,7 +37,7 @@ no-number (c ∷ cs) h =
     not-true true q = absurd q
     not-true false q = refl
 
--- the five parts of is-name, and the four of is-atom
+-- a name has no digit first, and an atom has letters only
 pub name-no-digit : (w : Name) → T (is-name w) → T (not (digit-first w))
 name-no-digit w h =
     let short =

@@ -17,7 +17,7 @@ use Rattle.grammar.specs.Stack.{ExprStack, operand, in-parens, in-list, in-cas
 use Rattle.meaning.proofs.Splits.{eqb-isnt, is-true, and-T}
 use Rattle.grammar.proofs.Classes.{differ}
 
--- what may stand behind an expression of level n: an operator that no operator of this level takes as its own
+-- what may stand behind an expression of level n: what ends it, or an operator that leaves it whole
 abbrev pub follows : ℕ → Class → Bool
 follows n (c-number y) = false
 follows n (c-name x) = false
@@ -62,6 +62,7 @@ ceiling-grows zero = omega arith
 ceiling-grows (suc zero) = omega arith
 ceiling-grows (suc (suc n)) = omega arith
 
+-- nothing waits on top that binds as tightly as n
 abbrev pub below : ℕ → ExprStack → Bool
 below n (operand m o a k) = ltb m n
 below n (in-parens k) = true
@@ -71,6 +72,7 @@ below n (in-until cs k) = true
 below n (in-statement xs k) = true
 below n (in-binding p xs k) = true
 
+-- an expression of level n may be wanted here
 abbrev pub fits : ℕ → ExprStack → Bool
 fits n k = below (ceiling n) k
 

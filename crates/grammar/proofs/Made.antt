@@ -17,11 +17,13 @@ use Rattle.grammar.proofs.Classes.{Joins, left-level}
 use Rattle.grammar.proofs.Levels.{fits}
 use Rattle.grammar.proofs.Elements.{Made, Argument, Element, Parameter, StatementMade, ClauseMade, ModulesMade}
 
+-- case e {, or receive {
 pub data OwnerMade : Owner → List Name → Type 0 where
   made-of-case :
       {e : Expr} {s v : List Name} → ExprAt 0 s e → v ≡ k-case ∷ (s ++ (open-brace ∷ [])) → OwnerMade (of-case e) v
   made-of-receive : OwnerMade of-receive (k-receive ∷ open-brace ∷ [])
 
+-- what stands up to the opening bracket of a list of operands
 pub data OperationMade : Bracket → Operation → List Name → Type 0 where
   open-tuple : OperationMade brace make-tuple (open-brace ∷ [])
   open-call : {f : Name} → T (is-name f) → OperationMade paren (call f) (f ∷ open-paren ∷ [])
@@ -36,6 +38,7 @@ pub data OperationMade : Bracket → Operation → List Name → Type 0 where
       {w : Name} {n : Builtin} → ((k : ℕ) → T (takes n k) → Builtin-word w n k) →
       OperationMade paren (built-in n) (w ∷ open-paren ∷ [])
 
+-- and then operands and the closing bracket: an expression
 pub operation-closes :
     {b : Bracket} {j : Operation} {o : List Name} → OperationMade b j o → (s : List Name) (es : Exprs) → ExprsOf s es →
     T (arity-fits j es) → ExprAt 4 (o ++ (s ++ (closing b ∷ []))) (apply j es)
@@ -46,6 +49,7 @@ operation-closes (open-spawn h) s es d r = spawn-e h d
 operation-closes (open-far-spawn g h) s es d r = spawn-far-e g h d
 operation-closes (open-builtin h) s es d r = builtin-e (h (count es) r) d refl
 
+-- Stacks. What waits right of an operand fits its level: that is why applying it later is a rule of the grammar.
 mutual
   pub data ExprStackMade : ExprStack → List Name → Type 0 where
     made-operand :
@@ -104,6 +108,7 @@ pub data PatternStackMade : PatternStack → List Name → Type 0 where
       {h : Owner} {acc : Snoc Arm} {k : ExprStack} {u o s v : List Name} → ExprStackMade k u → OwnerMade h o →
       Made ClauseMade acc s → v ≡ u ++ (o ++ s) → PatternStackMade (before-arrow h acc k) v
 
+-- States: a stack, and the tokens behind it that are no part yet.
 pub data StateMade : State → List Name → Type 0 where
   at-want-expr : {k : ExprStack} {v : List Name} → ExprStackMade k v → StateMade (want-expr k) v
   at-after-name :
