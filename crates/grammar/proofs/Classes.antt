@@ -10,8 +10,16 @@ use lib.Dec.{eqb, leb, T, eqb→eq}
 use Rattle.meaning.specs.Basics.{opt, Name, same, listed}
 use Rattle.meaning.specs.Syntax.{Operator, Builtin, exit, Operation, make-pair, operate}
 use Rattle.meaning.specs.Tokens.{is-digit}
-use Rattle.meaning.specs.Grammar.{keywords, k-case, k-receive, k-catch, k-spawn, k-exit, underscore, open-bracket, comma, semicolon, equals, quote, arrow, double-colon, all-letters, digit-first, is-name, is-atom, number-from, Number, Infix, plus-sign, minus-sign, times-sign, divide-sign, modulo-sign, equal-sign, unequal-sign, less-sign, at-most-sign, Builtin-word, send-word, self-word, link-word, exit-word, exit-to-word, trap-word, show-word, name-word, where-word, swap-word}
-use Rattle.grammar.specs.Classes.{Bracket, paren, brace, opening, closing, Starter, s-quote, s-bracket, s-underscore, s-case, s-receive, s-catch, s-spawn, Separator, s-comma, s-semicolon, s-equals, s-arrow, Class, c-number, c-name, c-operator, c-open, c-close, c-builtin, c-start, c-separate, c-other, Entry, table, class-in, number-of, class-of}
+use Rattle.meaning.specs.Grammar.{keywords, k-case, k-receive, k-catch, k-spawn, k-exit, underscore, open-bracket}
+use Rattle.meaning.specs.Grammar.{comma, semicolon, equals, quote, arrow, double-colon, all-letters, digit-first}
+use Rattle.meaning.specs.Grammar.{is-name, is-atom, number-from, Number, Infix, plus-sign, minus-sign, times-sign}
+use Rattle.meaning.specs.Grammar.{divide-sign, modulo-sign, equal-sign, unequal-sign, less-sign, at-most-sign}
+use Rattle.meaning.specs.Grammar.{Builtin-word, send-word, self-word, link-word, exit-word, exit-to-word, trap-word}
+use Rattle.meaning.specs.Grammar.{show-word, name-word, where-word, swap-word}
+use Rattle.grammar.specs.Classes.{Bracket, paren, brace, opening, closing, Starter, s-quote, s-bracket, s-underscore}
+use Rattle.grammar.specs.Classes.{s-case, s-receive, s-catch, s-spawn, Separator, s-comma, s-semicolon, s-equals}
+use Rattle.grammar.specs.Classes.{s-arrow, Class, c-number, c-name, c-operator, c-open, c-close, c-builtin, c-start}
+use Rattle.grammar.specs.Classes.{c-separate, c-other, Entry, table, class-in, number-of, class-of}
 use Rattle.grammar.specs.Expressions.{takes}
 use Rattle.grammar.specs.LookAhead.{landmark, l-none}
 use Rattle.meaning.proofs.Splits.{T-of, is-true, is-false, and-T, cond-all, opt-all, bool-all, none-some, same-is}

@@ -6,9 +6,13 @@ use mathlib.Core.Option.{some}
 use lib.Dec.{T}
 use Rattle.meaning.specs.Basics.{on-some, Name}
 use Rattle.meaning.specs.Syntax.{Function, Program}
-use Rattle.meaning.specs.Grammar.{k-module, open-paren, close-paren, open-brace, close-brace, comma, semicolon, is-name, NamesOf, no-n, one-n, more-n, FunctionOf, function-x, FunctionsOf, no-f, more-f, ModulesOf, no-m, more-m}
+use Rattle.meaning.specs.Grammar.{k-module, open-paren, close-paren, open-brace, close-brace, comma, semicolon}
+use Rattle.meaning.specs.Grammar.{is-name, NamesOf, no-n, one-n, more-n, FunctionOf, function-x, FunctionsOf, no-f}
+use Rattle.meaning.specs.Grammar.{more-f, ModulesOf, no-m, more-m}
 use Rattle.grammar.specs.Machine.{at-top-level, run, program-at, parse}
-use Rattle.grammar.specs.Stack.{Snoc, none-yet, snoc, list-of, Modules, no-module, in-module, module-of, program-of, in-function, top-level, after-module, after-module-name, after-fn-name, want-parameter, after-parameter, after-parameters}
+use Rattle.grammar.specs.Stack.{Snoc, none-yet, snoc, list-of, Modules, no-module, in-module, module-of, program-of}
+use Rattle.grammar.specs.Stack.{in-function, top-level, after-module, after-module-name, after-fn-name}
+use Rattle.grammar.specs.Stack.{want-parameter, after-parameter, after-parameters}
 use Rattle.grammar.proofs.Classes.{differ}
 use Rattle.grammar.proofs.ReadsPatterns.{then-run}
 use Rattle.grammar.proofs.ReadsExprs.{then-when, reads-body}
@@ -23,11 +27,13 @@ pub reads-parameter :
     (x : Name) (acc : Snoc Name) (m : Modules) (y : Name) (ws : List Name) → T (is-name y) →
     run (want-parameter x acc m) (y ∷ ws) ≡ run (after-parameter x (snoc acc y) m) ws
 reads-parameter x none-yet m y ws h =
-    rw (differ (λ z. T (is-name z)) y close-paren h (λ q. q)) (then-when y (after-parameter x (snoc none-yet y) m) ws h)
+    rw (differ (λ z. T (is-name z)) y close-paren h (λ q. q))
+    (then-when y (after-parameter x (snoc none-yet y) m) ws h)
 reads-parameter x (snoc acc z) m y ws h = then-when y (after-parameter x (snoc (snoc acc z) y) m) ws h
 
 pub reads-names :
-    {s ps : List Name} → NamesOf s ps → (x : Name) (acc : Snoc Name) (m : Modules) → T (more-names acc ps) → (ws : List Name) →
+    {s ps : List Name} → NamesOf s ps → (x : Name) (acc : Snoc Name) (m : Modules) →
+    T (more-names acc ps) → (ws : List Name) →
     run (want-parameter x acc m) (s ++ (close-paren ∷ ws)) ≡ run (after-parameters x (list-of acc ps) m) ws
 reads-names no-n x none-yet m f ws = refl
 reads-names no-n x (snoc acc y) m f ws = absurd f
@@ -37,7 +43,8 @@ reads-names (more-n {x = y} {s = s} h d) x acc m f ws =
 
 -- functions
 pub reads-function :
-    {s : List Name} {f : Function} → FunctionOf s f → (m : Modules) (y : Name) (acc : Snoc Function) (ws : List Name) →
+    {s : List Name} {f : Function} → FunctionOf s f →
+    (m : Modules) (y : Name) (acc : Snoc Function) (ws : List Name) →
     run (top-level (in-module m y acc)) (s ++ ws) ≡ run (top-level (in-module m y (snoc acc f))) ws
 reads-function (function-x {x = x} {s = s} {t = t} {ps = ps} h d g) m y acc ws =
     let here : Modules = in-module m y acc in
@@ -55,7 +62,8 @@ list-of-snoc-all acc [] = refl
 list-of-snoc-all acc (f ∷ fs) = list-of-snoc-all (snoc acc f) fs
 
 pub reads-functions :
-    {s : List Name} {fs : List Function} → FunctionsOf s fs → (m : Modules) (y : Name) (acc : Snoc Function) (ws : List Name) →
+    {s : List Name} {fs : List Function} → FunctionsOf s fs →
+    (m : Modules) (y : Name) (acc : Snoc Function) (ws : List Name) →
     run (top-level (in-module m y acc)) (s ++ ws) ≡ run (top-level (in-module m y (snoc-all acc fs))) ws
 reads-functions no-f m y acc ws = refl
 reads-functions (more-f {t = t} {f = f} d g) m y acc ws =
@@ -67,7 +75,8 @@ module-begins no-module = refl
 module-begins (in-module m x acc) = refl
 
 pub reads-module :
-    (x : Name) {s : List Name} {fs : List Function} → T (is-name x) → FunctionsOf s fs → (m : Modules) (t : List Name) →
+    (x : Name) {s : List Name} {fs : List Function} → T (is-name x) → FunctionsOf s fs →
+    (m : Modules) (t : List Name) →
     run (top-level m) (k-module ∷ x ∷ semicolon ∷ (s ++ t)) ≡ run (top-level (in-module m x (snoc-all none-yet fs))) t
 reads-module x {s} h d m t =
     ap (λ o. then-run o (x ∷ semicolon ∷ (s ++ t))) (module-begins m)

@@ -1,13 +1,20 @@
 -- Lists that are read from the left: which tokens made their elements, and that these tokens, before those of a rest,
--- are a list of the grammar. Texts are equations, not indices, so that a text may be grouped in whatever way is at hand.
+-- are a list of the grammar. Texts are equations, not indices, so that a text may be grouped
+-- in whatever way is at hand.
 use mathlib.Core.Path.{_≡_, sym, ap, subst, _∙_}
 use mathlib.Core.Bool.{Bool, true, false}
 use mathlib.Core.List.{List, [], _∷_, _++_, append-assoc, append-nil}
 use lib.Dec.{T}
 use Rattle.meaning.specs.Basics.{Name}
-use Rattle.meaning.specs.Syntax.{Pattern, p-any, Patterns, no-p, and-p, Expr, Exprs, no-e, and-e, Body, bind, Clauses, clause, Function, Program}
-use Rattle.meaning.specs.Grammar.{k-module, open-brace, close-brace, comma, semicolon, equals, arrow, is-name, NamesOf, more-n, PatternAt, PatternsOf, more-x, ExprAt, ExprsOf, more-es, BodyOf, then-b, bind-b, ClausesOf, more-cs, FunctionOf, FunctionsOf, no-f, more-f, ModulesOf, more-m}
-use Rattle.grammar.specs.Stack.{Snoc, none-yet, snoc, onto, Statement, statement, Arm, arm, bind-statement, add-arm, exprs-of, patterns-of, body-of, clauses-of, list-of, Modules, no-module, in-module, module-of, program-of}
+use Rattle.meaning.specs.Syntax.{Pattern, p-any, Patterns, no-p, and-p, Expr, Exprs, no-e, and-e, Body, bind, Clauses}
+use Rattle.meaning.specs.Syntax.{clause, Function, Program}
+use Rattle.meaning.specs.Grammar.{k-module, open-brace, close-brace, comma, semicolon, equals, arrow, is-name}
+use Rattle.meaning.specs.Grammar.{NamesOf, more-n, PatternAt, PatternsOf, more-x, ExprAt, ExprsOf, more-es, BodyOf}
+use Rattle.meaning.specs.Grammar.{then-b, bind-b, ClausesOf, more-cs, FunctionOf, FunctionsOf, no-f, more-f}
+use Rattle.meaning.specs.Grammar.{ModulesOf, more-m}
+use Rattle.grammar.specs.Stack.{Snoc, none-yet, snoc, onto, Statement, statement, Arm, arm, bind-statement, add-arm}
+use Rattle.grammar.specs.Stack.{exprs-of, patterns-of, body-of, clauses-of, list-of, Modules, no-module, in-module}
+use Rattle.grammar.specs.Stack.{module-of, program-of}
 
 -- the tokens that made the elements of a list, one after another
 pub data Made {A : Type 0} (Each : A → List Name → Type 0) : Snoc A → List Name → Type 0 where
@@ -19,7 +26,8 @@ pub data Made {A : Type 0} (Each : A → List Name → Type 0) : Snoc A → List
 pub made-onto :
     {A C : Type 0} {Each : A → List Name → Type 0} (Whole : List Name → C → Type 0) (f : A → C → C) →
     ((x : A) (t s : List Name) (c : C) → Each x t → Whole s c → Whole (t ++ s) (f x c)) →
-    {xs : Snoc A} {s : List Name} → Made Each xs s → (t : List Name) (c : C) → Whole t c → Whole (s ++ t) (onto f xs c)
+    {xs : Snoc A} {s : List Name} → Made Each xs s → (t : List Name) (c : C) → Whole t c →
+    Whole (s ++ t) (onto f xs c)
 made-onto Whole f one made-none t c d = d
 made-onto Whole f one (made-more {xs = xs} {x = x} {s = s} {t = u} m e q) t c d =
     subst (λ z. Whole z (onto f xs (f x c))) (sym (ap (λ z. z ++ t) q ∙ append-assoc s u t))
@@ -126,7 +134,8 @@ pub clauses-made :
 clauses-made m t cs d = made-onto ClausesOf add-arm one m t cs d
   where
     one :
-        (x : Arm) (s t : List Name) (cs : Clauses) → ClauseMade x s → ClausesOf t cs → ClausesOf (s ++ t) (add-arm x cs)
+        (x : Arm) (s t : List Name) (cs : Clauses) → ClauseMade x s → ClausesOf t cs →
+        ClausesOf (s ++ t) (add-arm x cs)
     one (arm p b) s t cs (clause-made {s = x} {t = y} d g q) w =
         subst (λ z. ClausesOf z (clause p b cs)) (sym (ap (λ z. z ++ t) q ∙ simp append-assoc)) (more-cs d g w)
 

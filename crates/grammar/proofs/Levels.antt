@@ -9,11 +9,13 @@ use borrow.Author.Tests.{lt-leb}
 use Rattle.meaning.specs.Basics.{Name, same}
 use Rattle.meaning.specs.Syntax.{Pattern, p-cons, Operation, Expr, var, receive, Clauses}
 use Rattle.meaning.specs.Grammar.{k-until, open-paren, colon}
-use Rattle.grammar.specs.Classes.{paren, brace, s-comma, s-semicolon, s-equals, s-arrow, Class, c-number, c-name, c-operator, c-open, c-close, c-builtin, c-start, c-separate, c-other, class-of}
+use Rattle.grammar.specs.Classes.{paren, brace, s-comma, s-semicolon, s-equals, s-arrow, Class, c-number, c-name}
+use Rattle.grammar.specs.Classes.{c-operator, c-open, c-close, c-builtin, c-start, c-separate, c-other, class-of}
 use Rattle.grammar.specs.Expressions.{binary, reduced, reduce, comparing, after-expr}
 use Rattle.grammar.specs.Machine.{name-ends, clauses-end}
 use Rattle.grammar.specs.Patterns.{is-pair, after-pattern}
-use Rattle.grammar.specs.Stack.{ExprStack, operand, in-parens, in-list, in-case, in-until, in-statement, in-binding, PatternStack, in-cons}
+use Rattle.grammar.specs.Stack.{ExprStack, operand, in-parens, in-list, in-case, in-until, in-statement, in-binding}
+use Rattle.grammar.specs.Stack.{PatternStack, in-cons}
 use Rattle.meaning.proofs.Splits.{eqb-isnt, is-true, and-T}
 use Rattle.grammar.proofs.Classes.{differ}
 
@@ -77,7 +79,8 @@ abbrev pub fits : ℕ → ExprStack → Bool
 fits n k = below (ceiling n) k
 
 pub fits-looser : (n : ℕ) (k : ExprStack) → T (fits n k) → T (fits (suc n) k)
-fits-looser n (operand m o a k) h = lt→ltb m (ceiling (suc n)) (omega (arith, ltb→lt m (ceiling n) h, ceiling-grows n))
+fits-looser n (operand m o a k) h =
+    lt→ltb m (ceiling (suc n)) (omega (arith, ltb→lt m (ceiling n) h, ceiling-grows n))
 fits-looser n (in-parens k) h = tt
 fits-looser n (in-list b o xs k) h = tt
 fits-looser n (in-case k) h = tt

@@ -1,12 +1,20 @@
--- The look-ahead for the = of a statement passes over whole patterns and expressions: they leave the depth of brackets
--- as it was, and hold no = and no ; outside of their own brackets.
+-- The look-ahead for the = of a statement passes over whole patterns and expressions: they leave the depth of
+-- brackets as it was, and hold no = and no ; outside of their own brackets.
 use mathlib.Core.Path.{_≡_, refl, ap, _∙_}
 use mathlib.Core.List.{List, _∷_, _++_, append-assoc}
 use Prim.Native.Nat.{ℕ, suc}
 use lib.Dec.{T}
 use Rattle.meaning.specs.Basics.{Name}
 use Rattle.meaning.specs.Syntax.{Pattern, Patterns, Operator, Builtin, Expr, Exprs, Body, Clauses}
-use Rattle.meaning.specs.Grammar.{k-until, open-paren, close-paren, open-brace, close-brace, semicolon, colon, equals, arrow, is-name, is-atom, Number, Infix, plus-sign, minus-sign, times-sign, divide-sign, modulo-sign, equal-sign, unequal-sign, less-sign, at-most-sign, Builtin-word, PatternAt, cons-x, plain-x, any-x, var-x, int-x, atom-x, tuple-x, nil-x, brackets-x, PatternsOf, no-x, one-x, more-x, ExprAt, looser, compare-e, cons-e, sum-e, product-e, int-e, atom-e, var-e, nil-e, tuple-e, brackets-e, call-e, far-e, spawn-e, spawn-far-e, builtin-e, case-e, receive-e, until-e, catch-e, ExprsOf, none-es, one-es, more-es, BodyOf, last-b, then-b, bind-b, ClausesOf, no-cs, more-cs}
+use Rattle.meaning.specs.Grammar.{k-until, open-paren, close-paren, open-brace, close-brace, semicolon, colon, equals}
+use Rattle.meaning.specs.Grammar.{arrow, is-name, is-atom, Number, Infix, plus-sign, minus-sign, times-sign}
+use Rattle.meaning.specs.Grammar.{divide-sign, modulo-sign, equal-sign, unequal-sign, less-sign, at-most-sign}
+use Rattle.meaning.specs.Grammar.{Builtin-word, PatternAt, cons-x, plain-x, any-x, var-x, int-x, atom-x, tuple-x}
+use Rattle.meaning.specs.Grammar.{nil-x, brackets-x, PatternsOf, no-x, one-x, more-x, ExprAt, looser, compare-e}
+use Rattle.meaning.specs.Grammar.{cons-e, sum-e, product-e, int-e, atom-e, var-e, nil-e, tuple-e, brackets-e, call-e}
+use Rattle.meaning.specs.Grammar.{far-e, spawn-e, spawn-far-e, builtin-e, case-e, receive-e, until-e, catch-e}
+use Rattle.meaning.specs.Grammar.{ExprsOf, none-es, one-es, more-es, BodyOf, last-b, then-b, bind-b, ClausesOf, no-cs}
+use Rattle.meaning.specs.Grammar.{more-cs}
 use Rattle.grammar.specs.Classes.{class-of}
 use Rattle.grammar.specs.LookAhead.{landmark, l-none, pass, binds}
 use Rattle.grammar.proofs.Classes.{class-number, atom-letters, class-name, class-builtin, letters-none}
@@ -78,19 +86,22 @@ mutual
   pass-expr (tuple-e x) d ws = simp append-assoc (pass-exprs x (suc d) (close-brace ∷ ws))
   pass-expr (brackets-e x) d ws = simp append-assoc (pass-expr x (suc d) (close-paren ∷ ws))
   pass-expr (call-e {f = f} {s = s} h x) d ws =
-      simp append-assoc (pass-name d f (open-paren ∷ (s ++ (close-paren ∷ ws))) h ∙ pass-exprs x (suc d) (close-paren ∷ ws))
+      simp append-assoc
+      (pass-name d f (open-paren ∷ (s ++ (close-paren ∷ ws))) h ∙ pass-exprs x (suc d) (close-paren ∷ ws))
   pass-expr (far-e {m = m} {f = f} {s = s} g h x) d ws =
       simp append-assoc
       (pass-name d m (colon ∷ f ∷ open-paren ∷ (s ++ (close-paren ∷ ws))) g
       ∙ pass-name d f (open-paren ∷ (s ++ (close-paren ∷ ws))) h ∙ pass-exprs x (suc d) (close-paren ∷ ws))
   pass-expr (spawn-e {f = f} {s = s} h x) d ws =
-      simp append-assoc (pass-name d f (open-paren ∷ (s ++ (close-paren ∷ ws))) h ∙ pass-exprs x (suc d) (close-paren ∷ ws))
+      simp append-assoc
+      (pass-name d f (open-paren ∷ (s ++ (close-paren ∷ ws))) h ∙ pass-exprs x (suc d) (close-paren ∷ ws))
   pass-expr (spawn-far-e {m = m} {f = f} {s = s} g h x) d ws =
       simp append-assoc
       (pass-name d m (colon ∷ f ∷ open-paren ∷ (s ++ (close-paren ∷ ws))) g
       ∙ pass-name d f (open-paren ∷ (s ++ (close-paren ∷ ws))) h ∙ pass-exprs x (suc d) (close-paren ∷ ws))
   pass-expr (builtin-e {s = s} p x c) d ws =
-      simp append-assoc (pass-builtin p d (open-paren ∷ (s ++ (close-paren ∷ ws))) ∙ pass-exprs x (suc d) (close-paren ∷ ws))
+      simp append-assoc
+      (pass-builtin p d (open-paren ∷ (s ++ (close-paren ∷ ws))) ∙ pass-exprs x (suc d) (close-paren ∷ ws))
   pass-expr (case-e {t = t} x y) d ws =
       simp append-assoc (pass-expr x d (open-brace ∷ (t ++ (close-brace ∷ ws))) ∙ pass-clauses y d (close-brace ∷ ws))
   pass-expr (receive-e x) d ws = simp append-assoc (pass-clauses x d (close-brace ∷ ws))

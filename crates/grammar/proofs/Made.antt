@@ -7,11 +7,23 @@ use mathlib.Core.Option.{Option}
 use Prim.Native.Nat.{ℕ}
 use lib.Dec.{T}
 use Rattle.meaning.specs.Basics.{Name, same}
-use Rattle.meaning.specs.Syntax.{Pattern, Builtin, Operation, make-tuple, call, far-call, spawn, far-spawn, built-in, Expr, apply, Exprs, Clauses}
-use Rattle.meaning.specs.Grammar.{k-module, k-fn, k-case, k-receive, k-until, k-catch, k-spawn, open-paren, close-paren, open-bracket, open-brace, close-brace, colon, equals, quote, arrow, double-colon, is-name, count, Builtin-word, NamesOf, PatternAt, ExprAt, tuple-e, call-e, far-e, spawn-e, spawn-far-e, builtin-e, ExprsOf, ClausesOf}
+use Rattle.meaning.specs.Syntax.{Pattern, Builtin, Operation, make-tuple, call, far-call, spawn, far-spawn, built-in}
+use Rattle.meaning.specs.Syntax.{Expr, apply, Exprs, Clauses}
+use Rattle.meaning.specs.Grammar.{k-module, k-fn, k-case, k-receive, k-until, k-catch, k-spawn, open-paren}
+use Rattle.meaning.specs.Grammar.{close-paren, open-bracket, open-brace, close-brace, colon, equals, quote, arrow}
+use Rattle.meaning.specs.Grammar.{double-colon, is-name, count, Builtin-word, NamesOf, PatternAt, ExprAt, tuple-e}
+use Rattle.meaning.specs.Grammar.{call-e, far-e, spawn-e, spawn-far-e, builtin-e, ExprsOf, ClausesOf}
 use Rattle.grammar.specs.Classes.{Bracket, paren, brace, closing}
 use Rattle.grammar.specs.Expressions.{takes, arity-fits}
-use Rattle.grammar.specs.Stack.{Snoc, snoc, Statement, Arm, Modules, Owner, of-case, of-receive, ExprStack, operand, in-parens, in-list, in-case, in-until, in-statement, in-binding, BodyStack, in-arm, in-timeout, in-catch, in-function, PatternStack, in-cons, in-group, in-tuple, before-equals, before-arrow, State, want-expr, have-expr, after-name, after-colon, want-operands, after-quote, after-bracket, after-spawn, after-spawn-name, after-spawn-colon, after-receive, after-clauses, after-catch, want-statement, want-pattern, have-pattern, after-pattern-quote, after-pattern-bracket, after-arrow, top-level, after-module, after-module-name, after-fn, after-fn-name, want-parameter, after-parameter, after-parameters, when}
+use Rattle.grammar.specs.Stack.{Snoc, snoc, Statement, Arm, Modules, Owner, of-case, of-receive, ExprStack, operand}
+use Rattle.grammar.specs.Stack.{in-parens, in-list, in-case, in-until, in-statement, in-binding, BodyStack, in-arm}
+use Rattle.grammar.specs.Stack.{in-timeout, in-catch, in-function, PatternStack, in-cons, in-group, in-tuple}
+use Rattle.grammar.specs.Stack.{before-equals, before-arrow, State, want-expr, have-expr, after-name, after-colon}
+use Rattle.grammar.specs.Stack.{want-operands, after-quote, after-bracket, after-spawn, after-spawn-name}
+use Rattle.grammar.specs.Stack.{after-spawn-colon, after-receive, after-clauses, after-catch, want-statement}
+use Rattle.grammar.specs.Stack.{want-pattern, have-pattern, after-pattern-quote, after-pattern-bracket, after-arrow}
+use Rattle.grammar.specs.Stack.{top-level, after-module, after-module-name, after-fn, after-fn-name, want-parameter}
+use Rattle.grammar.specs.Stack.{after-parameter, after-parameters, when}
 use Rattle.meaning.proofs.Splits.{T-of, cond-all, same-is, OnSome}
 use Rattle.grammar.proofs.Classes.{Joins, left-level}
 use Rattle.grammar.proofs.Levels.{fits}
@@ -40,8 +52,8 @@ pub data OperationMade : Bracket → Operation → List Name → Type 0 where
 
 -- and then operands and the closing bracket: an expression
 pub operation-closes :
-    {b : Bracket} {j : Operation} {o : List Name} → OperationMade b j o → (s : List Name) (es : Exprs) → ExprsOf s es →
-    T (arity-fits j es) → ExprAt 4 (o ++ (s ++ (closing b ∷ []))) (apply j es)
+    {b : Bracket} {j : Operation} {o : List Name} → OperationMade b j o → (s : List Name) (es : Exprs) →
+    ExprsOf s es → T (arity-fits j es) → ExprAt 4 (o ++ (s ++ (closing b ∷ []))) (apply j es)
 operation-closes open-tuple s es d r = tuple-e d
 operation-closes (open-call h) s es d r = call-e h d
 operation-closes (open-far g h) s es d r = far-e g h d
@@ -88,8 +100,9 @@ mutual
         {k : ExprStack} {u v : List Name} → ExprStackMade k u → v ≡ u ++ (k-catch ∷ open-brace ∷ []) →
         BodyStackMade (in-catch k) v
     made-function :
-        {x : Name} {ps : List Name} {m : Modules} {u s v : List Name} → ModulesMade m u → T (is-name x) → NamesOf s ps →
-        v ≡ u ++ (k-fn ∷ x ∷ open-paren ∷ (s ++ (close-paren ∷ open-brace ∷ []))) → BodyStackMade (in-function x ps m) v
+        {x : Name} {ps : List Name} {m : Modules} {u s v : List Name} → ModulesMade m u → T (is-name x) →
+        NamesOf s ps → v ≡ u ++ (k-fn ∷ x ∷ open-paren ∷ (s ++ (close-paren ∷ open-brace ∷ []))) →
+        BodyStackMade (in-function x ps m) v
 
 pub data PatternStackMade : PatternStack → List Name → Type 0 where
   made-cons :
@@ -134,7 +147,8 @@ pub data StateMade : State → List Name → Type 0 where
       {k : ExprStack} {u v : List Name} {x : Name} → ExprStackMade k u → T (is-name x) →
       v ≡ u ++ (k-spawn ∷ x ∷ colon ∷ []) → StateMade (after-spawn-colon x k) v
   at-after-receive :
-      {k : ExprStack} {u v : List Name} → ExprStackMade k u → v ≡ u ++ (k-receive ∷ []) → StateMade (after-receive k) v
+      {k : ExprStack} {u v : List Name} → ExprStackMade k u → v ≡ u ++ (k-receive ∷ []) →
+      StateMade (after-receive k) v
   at-after-clauses :
       {cs : Clauses} {k : ExprStack} {u s v : List Name} → ExprStackMade k u → ClausesOf s cs →
       v ≡ u ++ (k-receive ∷ open-brace ∷ (s ++ (close-brace ∷ []))) → StateMade (after-clauses cs k) v
@@ -204,5 +218,6 @@ pub followed : {v : List Name} (u s : List Name) → v ≡ u ++ s → (w : Name)
 followed u s q w = behind q (w ∷ []) ∙ append-assoc u s (w ∷ [])
 
 pub followed-by :
-    {v : List Name} (u s : List Name) → v ≡ u ++ s → (w x : Name) → T (same w x) → v ++ (w ∷ []) ≡ u ++ (s ++ (x ∷ []))
+    {v : List Name} (u s : List Name) → v ≡ u ++ s → (w x : Name) → T (same w x) →
+    v ++ (w ∷ []) ≡ u ++ (s ++ (x ∷ []))
 followed-by u s q w x h = followed u s q w ∙ ap (λ z. u ++ (s ++ (z ∷ []))) (same-is w x h)

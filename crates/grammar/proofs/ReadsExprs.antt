@@ -8,29 +8,43 @@ use Prim.Native.Nat.{ℕ}
 use native.Mathlib.Omega.{arith}
 use lib.Dec.{T}
 use Rattle.meaning.specs.Basics.{Name}
-use Rattle.meaning.specs.Syntax.{p-any, Operation, make-tuple, make-pair, call, far-call, spawn, far-spawn, operate, built-in, Expr, atom, apply, Exprs, no-e, and-e, Body, Clauses}
-use Rattle.meaning.specs.Grammar.{k-until, open-paren, close-paren, open-brace, close-brace, comma, semicolon, colon, equals, arrow, double-colon, is-name, is-atom, ExprAt, looser, compare-e, cons-e, sum-e, product-e, int-e, atom-e, var-e, nil-e, tuple-e, brackets-e, call-e, far-e, spawn-e, spawn-far-e, builtin-e, case-e, receive-e, until-e, catch-e, ExprsOf, none-es, one-es, more-es, BodyOf, last-b, then-b, bind-b, ClausesOf, no-cs, more-cs}
+use Rattle.meaning.specs.Syntax.{p-any, Operation, make-tuple, make-pair, call, far-call, spawn, far-spawn, operate}
+use Rattle.meaning.specs.Syntax.{built-in, Expr, atom, apply, Exprs, no-e, and-e, Body, Clauses}
+use Rattle.meaning.specs.Grammar.{k-until, open-paren, close-paren, open-brace, close-brace, comma, semicolon, colon}
+use Rattle.meaning.specs.Grammar.{equals, arrow, double-colon, is-name, is-atom, ExprAt, looser, compare-e, cons-e}
+use Rattle.meaning.specs.Grammar.{sum-e, product-e, int-e, atom-e, var-e, nil-e, tuple-e, brackets-e, call-e, far-e}
+use Rattle.meaning.specs.Grammar.{spawn-e, spawn-far-e, builtin-e, case-e, receive-e, until-e, catch-e, ExprsOf}
+use Rattle.meaning.specs.Grammar.{none-es, one-es, more-es, BodyOf, last-b, then-b, bind-b, ClausesOf, no-cs, more-cs}
 use Rattle.grammar.specs.Classes.{Bracket, paren, brace, closing, c-operator, class-of}
-use Rattle.grammar.specs.Expressions.{binary, Reduced, reduced, reduce, shift, takes, arity-fits, close-list, close-body, start-expr, after-expr}
+use Rattle.grammar.specs.Expressions.{binary, Reduced, reduced, reduce, shift, takes, arity-fits, close-list}
+use Rattle.grammar.specs.Expressions.{close-body, start-expr, after-expr}
 use Rattle.grammar.specs.LookAhead.{binds}
 use Rattle.grammar.specs.Machine.{run}
 use Rattle.grammar.specs.Patterns.{close-clauses}
-use Rattle.grammar.specs.Stack.{Snoc, none-yet, snoc, Statement, statement, Arm, arm, exprs-of, body-of, clauses-of, Owner, of-case, of-receive, ExprStack, operand, in-parens, in-list, in-case, in-until, in-statement, in-binding, BodyStack, in-arm, in-timeout, in-catch, before-equals, before-arrow, State, want-expr, have-expr, after-name, want-operands, after-spawn-name, want-statement, want-pattern, when}
+use Rattle.grammar.specs.Stack.{Snoc, none-yet, snoc, Statement, statement, Arm, arm, exprs-of, body-of, clauses-of}
+use Rattle.grammar.specs.Stack.{Owner, of-case, of-receive, ExprStack, operand, in-parens, in-list, in-case, in-until}
+use Rattle.grammar.specs.Stack.{in-statement, in-binding, BodyStack, in-arm, in-timeout, in-catch, before-equals}
+use Rattle.grammar.specs.Stack.{before-arrow, State, want-expr, have-expr, after-name, want-operands}
+use Rattle.grammar.specs.Stack.{after-spawn-name, want-statement, want-pattern, when}
 use Rattle.meaning.proofs.Splits.{is-true}
-use Rattle.grammar.proofs.Classes.{class-number, class-name, class-comparison, class-sum, class-product, class-builtin, builtin-takes}
-use Rattle.grammar.proofs.Levels.{follows, follows-looser, follows-as, fits, fits-looser, reduce-stays, not-comparing, after-operand, name-is-variable, no-until}
+use Rattle.grammar.proofs.Classes.{class-number, class-name, class-comparison, class-sum, class-product}
+use Rattle.grammar.proofs.Classes.{class-builtin, builtin-takes}
+use Rattle.grammar.proofs.Levels.{follows, follows-looser, follows-as, fits, fits-looser, reduce-stays, not-comparing}
+use Rattle.grammar.proofs.Levels.{after-operand, name-is-variable, no-until}
 use Rattle.grammar.proofs.LookAhead.{pass-pattern, pass-expr}
 use Rattle.grammar.proofs.ReadsPatterns.{then-run, reads-pattern}
 
 -- the look-ahead decides whether a statement begins with a pattern
 pub statement-expr :
-    (acc : Snoc Statement) (k : BodyStack) (s : List Name) (w : Name) (ws : List Name) → binds 0 (s ++ (w ∷ ws)) ≡ false →
+    (acc : Snoc Statement) (k : BodyStack) (s : List Name) (w : Name) (ws : List Name) →
+    binds 0 (s ++ (w ∷ ws)) ≡ false →
     run (want-statement acc k) (s ++ (w ∷ ws)) ≡ run (want-expr (in-statement acc k)) (s ++ (w ∷ ws))
 statement-expr acc k [] w ws h = rw h
 statement-expr acc k (x ∷ xs) w ws h = rw h
 
 pub statement-pattern :
-    (acc : Snoc Statement) (k : BodyStack) (s : List Name) (w : Name) (ws : List Name) → binds 0 (s ++ (w ∷ ws)) ≡ true →
+    (acc : Snoc Statement) (k : BodyStack) (s : List Name) (w : Name) (ws : List Name) →
+    binds 0 (s ++ (w ∷ ws)) ≡ true →
     run (want-statement acc k) (s ++ (w ∷ ws)) ≡ run (want-pattern (before-equals acc k)) (s ++ (w ∷ ws))
 statement-pattern acc k [] w ws h = rw h
 statement-pattern acc k (x ∷ xs) w ws h = rw h
@@ -40,7 +54,8 @@ pub reads-name :
     (x : Name) (k : ExprStack) (ws : List Name) → T (is-name x) → run (want-expr k) (x ∷ ws) ≡ run (after-name x k) ws
 reads-name x k ws h = ap (λ c. then-run (start-expr k c) ws) (class-name x h)
 
-pub then-when : (x : Name) (st : State) (ws : List Name) → T (is-name x) → then-run (when (is-name x) st) ws ≡ run st ws
+pub then-when :
+    (x : Name) (st : State) (ws : List Name) → T (is-name x) → then-run (when (is-name x) st) ws ≡ run st ws
 then-when x st ws h = ap (λ b. then-run (when b st) ws) (is-true (is-name x) h)
 
 -- behind a comma another expression must come
@@ -75,7 +90,8 @@ closing-follows brace = tt
 
 -- two operands: the left one is read, nothing that waits is applied, its operator waits, the right one is read
 pub reads-binary :
-    {n m : ℕ} {j : Operation} (k : ExprStack) (s t ws : List Name) (v w : Name) (a b : Expr) → class-of v ≡ c-operator n m j →
+    {n m : ℕ} {j : Operation} (k : ExprStack) (s t ws : List Name) (v w : Name) (a b : Expr) →
+    class-of v ≡ c-operator n m j →
     run (want-expr k) (s ++ (v ∷ (t ++ (w ∷ ws)))) ≡ then-run (after-expr a k (class-of v)) (t ++ (w ∷ ws)) →
     reduce n a k ≡ reduced a k → shift m j a k ≡ some (want-expr (operand m j a k)) →
     run (want-expr (operand m j a k)) (t ++ (w ∷ ws)) ≡ then-run (after-expr b (operand m j a k) (class-of w)) ws →
@@ -98,7 +114,8 @@ Reads-expr n s e =
 
 mutual
   pub reads-expr : {n : ℕ} {s : List Name} {e : Expr} → ExprAt n s e → Reads-expr n s e
-  reads-expr (looser {n = n} l d) k c w f ws = reads-expr d k (fits-looser n k c) w (follows-looser n (class-of w) f) ws
+  reads-expr (looser {n = n} l d) k c w f ws =
+      reads-expr d k (fits-looser n k c) w (follows-looser n (class-of w) f) ws
   reads-expr (compare-e {s = s} {t = t} {a = a} {b = b} {w = v} {o = i} d o g) k c w f ws =
       reads-binary k s t ws v w a b (class-comparison o)
       (reads-expr d k (fits-looser 0 k c) v (follows-as 1 (class-comparison o) tt) (t ++ (w ∷ ws)))
@@ -129,7 +146,8 @@ mutual
   reads-expr (brackets-e d) k c w f ws = simp append-assoc (reads-expr d (in-parens k) tt close-paren tt (w ∷ ws))
   reads-expr (call-e {f = g} {s = s} h d) k c w f ws =
       simp append-assoc
-      (reads-name g k (open-paren ∷ (s ++ (close-paren ∷ w ∷ ws))) h ∙ reads-exprs d paren (call g) none-yet k tt tt (w ∷ ws))
+      (reads-name g k (open-paren ∷ (s ++ (close-paren ∷ w ∷ ws))) h
+      ∙ reads-exprs d paren (call g) none-yet k tt tt (w ∷ ws))
   reads-expr (far-e {m = m} {f = g} {s = s} hm h d) k c w f ws =
       simp append-assoc
       (reads-name m k (colon ∷ g ∷ open-paren ∷ (s ++ (close-paren ∷ w ∷ ws))) hm
@@ -147,13 +165,15 @@ mutual
   reads-expr (builtin-e {s = s} {b = b} p d q) k c w f ws =
       simp append-assoc
       (ap (λ x. then-run (start-expr k x) (open-paren ∷ (s ++ (close-paren ∷ w ∷ ws)))) (class-builtin p)
-      ∙ reads-exprs d paren (built-in b) none-yet k tt (subst (λ z. T (takes b z)) (sym q) (builtin-takes p)) (w ∷ ws))
+      ∙ reads-exprs d paren (built-in b) none-yet k tt (subst (λ z. T (takes b z)) (sym q) (builtin-takes p))
+      (w ∷ ws))
   reads-expr (case-e {t = t} {e = e} d g) k c w f ws =
       simp append-assoc
       (reads-expr d (in-case k) tt open-brace tt (t ++ (close-brace ∷ w ∷ ws))
       ∙ reads-clauses g (of-case e) none-yet k (w ∷ ws))
   reads-expr (receive-e {cs = cs} d) k c w f ws =
-      simp append-assoc (reads-clauses d of-receive none-yet k (w ∷ ws) ∙ ap (λ o. then-run o ws) (no-until 4 cs k w f))
+      simp append-assoc
+      (reads-clauses d of-receive none-yet k (w ∷ ws) ∙ ap (λ o. then-run o ws) (no-until 4 cs k w f))
   reads-expr (until-e {t = t} {u = u} {cs = cs} {e = e} d g i) k c w f ws =
       simp append-assoc
       (reads-clauses d of-receive none-yet k (k-until ∷ (t ++ (open-brace ∷ (u ++ (close-brace ∷ w ∷ ws)))))
@@ -172,7 +192,8 @@ mutual
       ∙ ap (λ o. then-run o ws) (list-closes-last b j acc e k ∙ list-closes b j (exprs-of acc (and-e e no-e)) k r)
   reads-exprs (more-es {t = t} {e = e} d ds) b j acc k f r ws =
       simp append-assoc
-      (reads-expr d (in-list b j acc k) tt comma tt (t ++ (closing b ∷ ws)) ∙ reads-exprs ds b j (snoc acc e) k tt r ws)
+      (reads-expr d (in-list b j acc k) tt comma tt (t ++ (closing b ∷ ws))
+      ∙ reads-exprs ds b j (snoc acc e) k tt r ws)
 
   pub reads-body :
       {s : List Name} {b : Body} → BodyOf s b → (acc : Snoc Statement) (k : BodyStack) (ws : List Name) →
@@ -182,7 +203,8 @@ mutual
       ∙ reads-expr d (in-statement acc k) tt close-brace tt ws
   reads-body (then-b {s = s} {t = t} {e = e} d g) acc k ws =
       simp append-assoc
-      (statement-expr acc k s semicolon (t ++ (close-brace ∷ ws)) (pass-expr d 0 (semicolon ∷ (t ++ (close-brace ∷ ws))))
+      (statement-expr acc k s semicolon (t ++ (close-brace ∷ ws))
+      (pass-expr d 0 (semicolon ∷ (t ++ (close-brace ∷ ws))))
       ∙ reads-expr d (in-statement acc k) tt semicolon tt (t ++ (close-brace ∷ ws))
       ∙ reads-body g (snoc acc (statement p-any e)) k ws)
   reads-body (bind-b {s = s} {t = t} {u = u} {p = p} {e = e} d g i) acc k ws =
@@ -194,8 +216,10 @@ mutual
       ∙ reads-body i (snoc acc (statement p e)) k ws)
 
   pub reads-clauses :
-      {s : List Name} {cs : Clauses} → ClausesOf s cs → (h : Owner) (acc : Snoc Arm) (k : ExprStack) (ws : List Name) →
-      run (want-pattern (before-arrow h acc k)) (s ++ (close-brace ∷ ws)) ≡ run (close-clauses h (clauses-of acc cs) k) ws
+      {s : List Name} {cs : Clauses} → ClausesOf s cs →
+      (h : Owner) (acc : Snoc Arm) (k : ExprStack) (ws : List Name) →
+      run (want-pattern (before-arrow h acc k)) (s ++ (close-brace ∷ ws))
+      ≡ run (close-clauses h (clauses-of acc cs) k) ws
   reads-clauses no-cs h acc k ws = refl
   reads-clauses (more-cs {t = t} {u = u} {p = p} {b = b} d g i) h acc k ws =
       simp append-assoc

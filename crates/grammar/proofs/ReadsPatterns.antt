@@ -8,11 +8,14 @@ use Prim.Native.Nat.{ℕ}
 use lib.Dec.{T}
 use Rattle.meaning.specs.Basics.{on-some, Name}
 use Rattle.meaning.specs.Syntax.{Pattern, p-atom, p-tuple, Patterns, no-p, and-p}
-use Rattle.meaning.specs.Grammar.{close-paren, close-brace, comma, double-colon, is-atom, PatternAt, cons-x, plain-x, any-x, var-x, int-x, atom-x, tuple-x, nil-x, brackets-x, PatternsOf, no-x, one-x, more-x}
+use Rattle.meaning.specs.Grammar.{close-paren, close-brace, comma, double-colon, is-atom, PatternAt, cons-x, plain-x}
+use Rattle.meaning.specs.Grammar.{any-x, var-x, int-x, atom-x, tuple-x, nil-x, brackets-x, PatternsOf, no-x, one-x}
+use Rattle.meaning.specs.Grammar.{more-x}
 use Rattle.grammar.specs.Classes.{class-of}
 use Rattle.grammar.specs.Machine.{run}
 use Rattle.grammar.specs.Patterns.{start-pattern, after-pattern}
-use Rattle.grammar.specs.Stack.{Snoc, none-yet, snoc, patterns-of, PatternStack, in-cons, in-group, in-tuple, State, want-pattern, have-pattern, when}
+use Rattle.grammar.specs.Stack.{Snoc, none-yet, snoc, patterns-of, PatternStack, in-cons, in-group, in-tuple, State}
+use Rattle.grammar.specs.Stack.{want-pattern, have-pattern, when}
 use Rattle.meaning.proofs.Splits.{is-true}
 use Rattle.grammar.proofs.Classes.{class-number, class-name}
 use Rattle.grammar.proofs.Levels.{follows-pattern, follows-plain, after-cons}
@@ -50,7 +53,8 @@ mutual
   pub reads-patterns :
       {s : List Name} {ps : Patterns} → PatternsOf s ps →
       (acc : Snoc Pattern) (k : PatternStack) → T (more-patterns acc ps) → (ws : List Name) →
-      run (want-pattern (in-tuple acc k)) (s ++ (close-brace ∷ ws)) ≡ run (have-pattern (p-tuple (patterns-of acc ps)) k) ws
+      run (want-pattern (in-tuple acc k)) (s ++ (close-brace ∷ ws))
+      ≡ run (have-pattern (p-tuple (patterns-of acc ps)) k) ws
   reads-patterns no-x none-yet k f ws = refl
   reads-patterns no-x (snoc acc p) k f ws = absurd f
   reads-patterns (one-x d) acc k f ws = reads-pattern d (in-tuple acc k) close-brace tt ws

@@ -1,6 +1,6 @@
--- What the machine does with expressions keeps to the grammar: if tokens made the stack, and one more takes the machine on,
--- then these and that one made the new state. Applying an operator that waits is a rule of the grammar, since it
--- binds less tightly than what it waits for.
+-- What the machine does with expressions keeps to the grammar: if tokens made the stack, and one more takes the
+-- machine on, then these and that one made the new state. Applying an operator that waits is a rule of the grammar,
+-- since it binds less tightly than what it waits for.
 use mathlib.Core.Path.{_≡_, refl, sym, ap, subst, _∙_}
 use mathlib.Core.Bool.{false}
 use mathlib.Core.List.{List, [], _∷_, _++_, append-assoc, append-nil}
@@ -11,16 +11,31 @@ use lib.Dec.{leb, T, leb→le, ltb→lt, lt→ltb}
 use borrow.Author.Tests.{leb-false}
 use Rattle.meaning.specs.Basics.{Name, same}
 use Rattle.meaning.specs.Syntax.{Operation, Expr, var, receive, Exprs, no-e, and-e, Body, last, Clauses}
-use Rattle.meaning.specs.Grammar.{k-receive, k-until, open-paren, open-brace, close-brace, comma, semicolon, colon, is-name, ExprAt, looser, compare-e, cons-e, sum-e, product-e, int-e, var-e, brackets-e, receive-e, until-e, catch-e, ExprsOf, none-es, one-es, BodyOf, last-b, ClausesOf, function-x}
-use Rattle.grammar.specs.Classes.{Bracket, paren, brace, closing, s-quote, s-bracket, s-underscore, s-case, s-receive, s-catch, s-spawn, s-comma, s-semicolon, s-equals, s-arrow, Class, c-number, c-name, c-operator, c-open, c-close, c-builtin, c-start, c-separate, c-other, class-of}
-use Rattle.grammar.specs.Expressions.{binary, Reduced, reduced, reduce, comparing, shift, arity-fits, close-list, close-body, close-expr, next-expr, next-statement, open-block, close-empty, start-expr, after-expr}
+use Rattle.meaning.specs.Grammar.{k-receive, k-until, open-paren, open-brace, close-brace, comma, semicolon, colon}
+use Rattle.meaning.specs.Grammar.{is-name, ExprAt, looser, compare-e, cons-e, sum-e, product-e, int-e, var-e}
+use Rattle.meaning.specs.Grammar.{brackets-e, receive-e, until-e, catch-e, ExprsOf, none-es, one-es, BodyOf, last-b}
+use Rattle.meaning.specs.Grammar.{ClausesOf, function-x}
+use Rattle.grammar.specs.Classes.{Bracket, paren, brace, closing, s-quote, s-bracket, s-underscore, s-case, s-receive}
+use Rattle.grammar.specs.Classes.{s-catch, s-spawn, s-comma, s-semicolon, s-equals, s-arrow, Class, c-number, c-name}
+use Rattle.grammar.specs.Classes.{c-operator, c-open, c-close, c-builtin, c-start, c-separate, c-other, class-of}
+use Rattle.grammar.specs.Expressions.{binary, Reduced, reduced, reduce, comparing, shift, arity-fits, close-list}
+use Rattle.grammar.specs.Expressions.{close-body, close-expr, next-expr, next-statement, open-block, close-empty}
+use Rattle.grammar.specs.Expressions.{start-expr, after-expr}
 use Rattle.grammar.specs.Machine.{name-ends, clauses-end}
 use Rattle.grammar.specs.Stack.{ExprStack, operand, BodyStack, State, want-expr}
 use Rattle.meaning.proofs.Splits.{T-of, cond-all, bool-all, same-is}
-use Rattle.grammar.proofs.Classes.{Joins, comparison, pairing, sum, product, left-level, right-level, Tells, class-tells}
+use Rattle.grammar.proofs.Classes.{Joins, comparison, pairing, sum, product, left-level, right-level, Tells}
+use Rattle.grammar.proofs.Classes.{class-tells}
 use Rattle.grammar.proofs.Levels.{ceiling, below, fits, may-compare}
-use Rattle.grammar.proofs.Elements.{made-none, made-more, argument, plain-statement, binding-statement, clause-made, made-no-module, made-module, exprs-made, body-made}
-use Rattle.grammar.proofs.Made.{made-of-case, OperationMade, open-tuple, open-call, open-builtin, operation-closes, ExprStackMade, made-operand, made-parens, made-list, made-case, made-until, made-statement, made-binding, BodyStackMade, made-arm, made-timeout, made-catch, made-function, made-before-arrow, at-want-expr, at-after-name, at-after-colon, at-want-operands, at-after-quote, at-after-bracket, at-after-spawn, at-after-receive, at-after-catch, at-have-expr, at-want-statement, at-want-pattern, at-top, Goes, when-goes, cond-goes, behind, reshape}
+use Rattle.grammar.proofs.Elements.{made-none, made-more, argument, plain-statement, binding-statement, clause-made}
+use Rattle.grammar.proofs.Elements.{made-no-module, made-module, exprs-made, body-made}
+use Rattle.grammar.proofs.Made.{made-of-case, OperationMade, open-tuple, open-call, open-builtin, operation-closes}
+use Rattle.grammar.proofs.Made.{ExprStackMade, made-operand, made-parens, made-list, made-case, made-until}
+use Rattle.grammar.proofs.Made.{made-statement, made-binding, BodyStackMade, made-arm, made-timeout, made-catch}
+use Rattle.grammar.proofs.Made.{made-function, made-before-arrow, at-want-expr, at-after-name, at-after-colon}
+use Rattle.grammar.proofs.Made.{at-want-operands, at-after-quote, at-after-bracket, at-after-spawn, at-after-receive}
+use Rattle.grammar.proofs.Made.{at-after-catch, at-have-expr, at-want-statement, at-want-pattern, at-top, Goes}
+use Rattle.grammar.proofs.Made.{when-goes, cond-goes, behind, reshape}
 
 -- an expression of a level is one of any looser level
 pub loosen : {s : List Name} {e : Expr} (n m : ℕ) → m ≤ n → n ≤ 4 → ExprAt n s e → ExprAt m s e
@@ -29,7 +44,8 @@ loosen {s} {e} zero m h l d = subst (λ x. ExprAt x s e) (zero-is h) d
     zero-is : m ≤ 0 → zero ≡ m
     zero-is q = omega arith
 loosen {s} {e} (suc n) m h l d =
-    bool-all (λ b. ExprAt m s e) (leb m n) (λ q. loosen n m (leb→le m n (T-of q)) (omega arith) (looser (omega arith) d))
+    bool-all (λ b. ExprAt m s e) (leb m n)
+    (λ q. loosen n m (leb→le m n (T-of q)) (omega arith) (looser (omega arith) d))
     (λ q. subst (λ x. ExprAt x s e) (top-is q) d)
   where
     top-is : leb m n ≡ false → suc n ≡ m
@@ -127,8 +143,8 @@ shift-sound st (product o) e s v d b is = at-want-expr (made-operand st b d (pro
 -- a bracket closes a list of operands
 pub close-list-sound :
     {k : ExprStack} {u : List Name} → ExprStackMade k u → (b c : Bracket) {j : Operation} {o : List Name} →
-    OperationMade c j o →
-    (s v : List Name) (es : Exprs) → ExprsOf s es → v ≡ u ++ (o ++ (s ++ (closing b ∷ []))) → Goes (close-list b c j es k) v
+    OperationMade c j o → (s v : List Name) (es : Exprs) → ExprsOf s es → v ≡ u ++ (o ++ (s ++ (closing b ∷ []))) →
+    Goes (close-list b c j es k) v
 close-list-sound st paren paren {j} op s v es d is =
     when-goes (arity-fits j es) _ v (λ h. at-have-expr st (operation-closes op s es d h) is)
 close-list-sound st paren brace op s v es d is = tt
@@ -141,13 +157,15 @@ pub close-body-sound :
     {k : BodyStack} {u : List Name} → BodyStackMade k u → (s v : List Name) (b : Body) → BodyOf s b →
     v ≡ u ++ (s ++ (close-brace ∷ [])) → Goes (close-body b k) v
 close-body-sound (made-arm st h c p q) s v b d is =
-    at-want-pattern (made-before-arrow st h (made-more c (clause-made p d refl) refl) (is ∙ behind q _ ∙ simp append-assoc))
+    at-want-pattern (made-before-arrow st h (made-more c (clause-made p d refl) refl)
+    (is ∙ behind q _ ∙ simp append-assoc))
 close-body-sound (made-timeout st c e q) s v b d is =
     at-have-expr st (until-e c e d) (is ∙ behind q _ ∙ simp append-assoc)
 close-body-sound (made-catch st q) s v b d is = at-have-expr st (catch-e d) (is ∙ behind q _ ∙ simp append-assoc)
 close-body-sound (made-function made-no-module h n q) s v b d is = tt
 close-body-sound (made-function (made-module m h f e) g n q) s v b d is =
-    at-top (made-module m h (made-more f (function-x g n d) refl) (is ∙ behind (q ∙ behind e _) _ ∙ simp append-assoc))
+    at-top (made-module m h (made-more f (function-x g n d) refl)
+    (is ∙ behind (q ∙ behind e _) _ ∙ simp append-assoc))
 
 -- what follows an expression of level 0: a closing bracket, a comma, a semicolon, {
 pub close-expr-sound :
@@ -199,7 +217,8 @@ open-block-sound (made-operand st c g o q) e s v d is = tt
 open-block-sound (made-parens st q) e s v d is = tt
 open-block-sound (made-list st op a q) e s v d is = tt
 open-block-sound (made-case st q) e s v d is =
-    at-want-pattern (made-before-arrow st (made-of-case d refl) made-none (is ∙ behind q _ ∙ simp (append-assoc, append-nil)))
+    at-want-pattern (made-before-arrow st (made-of-case d refl) made-none
+    (is ∙ behind q _ ∙ simp (append-assoc, append-nil)))
 open-block-sound (made-until st c q) e s v d is =
     at-want-statement (made-timeout st c d refl) made-none (is ∙ behind q _ ∙ simp (append-assoc, append-nil))
 open-block-sound (made-statement st x q) e s v d is = tt
@@ -240,7 +259,8 @@ after-expr-sound st e s d w (c-name x) q = tt
 after-expr-sound {k} {u} st e s d w (c-operator t m o) q =
     let l : t ≤ 4 = omega (arith, q .0, left-level-at-most (q .1)) in
     let r = reduce-sound st t 4 e s (u ++ s) d (fits-tightest st) l (omega arith) refl in
-    shift-sound (r .stack-made) (q .1) _ (r .s) _ (subst (λ x. ExprAt x (r .s) (reduce t e k .expr)) (q .0) (r .expr-at))
+    shift-sound (r .stack-made) (q .1) _ (r .s) _
+    (subst (λ x. ExprAt x (r .s) (reduce t e k .expr)) (q .0) (r .expr-at))
     (subst (λ x. T (below x (reduce t e k .stack))) (q .0) (r .nothing-waits)) (reshape u s (r .u) (r .s) w (r .is))
 after-expr-sound st e s d w (c-open paren) q = tt
 after-expr-sound st e s d w (c-open brace) q =
@@ -292,12 +312,13 @@ name-ends-sound {u = u} st x h w =
 
 -- behind the clauses of a receive: until, or what may follow an expression
 pub clauses-end-sound :
-    {k : ExprStack} {u : List Name} → ExprStackMade k u → (cs : Clauses) (s : List Name) → ClausesOf s cs → (w : Name) →
-    Goes (clauses-end cs k w) (u ++ ((k-receive ∷ open-brace ∷ (s ++ (close-brace ∷ []))) ++ (w ∷ [])))
+    {k : ExprStack} {u : List Name} → ExprStackMade k u → (cs : Clauses) (s : List Name) → ClausesOf s cs →
+    (w : Name) → Goes (clauses-end cs k w) (u ++ ((k-receive ∷ open-brace ∷ (s ++ (close-brace ∷ []))) ++ (w ∷ [])))
 clauses-end-sound {u = u} st cs s d w =
     cond-goes (same w k-until) _ _ _
     (λ e. at-want-expr (made-until st d
     (ap (λ z. u ++ (k-receive ∷ open-brace ∷ ((s ++ (close-brace ∷ [])) ++ (z ∷ [])))) (same-is w k-until e)
     ∙ simp append-assoc)))
-    (after-expr-sound st (receive cs) (k-receive ∷ open-brace ∷ (s ++ (close-brace ∷ []))) (receive-e d) w (class-of w)
+    (after-expr-sound st (receive cs) (k-receive ∷ open-brace ∷ (s ++ (close-brace ∷ []))) (receive-e d) w
+    (class-of w)
     (class-tells w))

@@ -6,22 +6,34 @@ use Prim.Native.Nat.{ℕ}
 use lib.Dec.{T}
 use Rattle.meaning.specs.Basics.{Name}
 use Rattle.meaning.specs.Syntax.{Pattern, p-cons, no-p, and-p, Operation, Clauses, no-c}
-use Rattle.meaning.specs.Grammar.{close-brace, comma, equals, arrow, double-colon, is-name, PatternAt, cons-x, plain-x, any-x, var-x, int-x, tuple-x, brackets-x, no-x, one-x, case-e, ClausesOf, no-cs}
-use Rattle.grammar.specs.Classes.{Bracket, paren, brace, closing, s-quote, s-bracket, s-underscore, s-case, s-receive, s-catch, s-spawn, s-comma, s-semicolon, s-equals, s-arrow, Class, c-number, c-name, c-operator, c-open, c-close, c-builtin, c-start, c-separate, c-other}
-use Rattle.grammar.specs.Patterns.{close-clauses, reduce-pattern, close-pattern, next-pattern, bind-pattern, begin-arm, close-without, is-pair, start-pattern, after-pattern}
+use Rattle.meaning.specs.Grammar.{close-brace, comma, equals, arrow, double-colon, is-name, PatternAt, cons-x}
+use Rattle.meaning.specs.Grammar.{plain-x, any-x, var-x, int-x, tuple-x, brackets-x, no-x, one-x, case-e, ClausesOf}
+use Rattle.meaning.specs.Grammar.{no-cs}
+use Rattle.grammar.specs.Classes.{Bracket, paren, brace, closing, s-quote, s-bracket, s-underscore, s-case, s-receive}
+use Rattle.grammar.specs.Classes.{s-catch, s-spawn, s-comma, s-semicolon, s-equals, s-arrow, Class, c-number, c-name}
+use Rattle.grammar.specs.Classes.{c-operator, c-open, c-close, c-builtin, c-start, c-separate, c-other}
+use Rattle.grammar.specs.Patterns.{close-clauses, reduce-pattern, close-pattern, next-pattern, bind-pattern}
+use Rattle.grammar.specs.Patterns.{begin-arm, close-without, is-pair, start-pattern, after-pattern}
 use Rattle.grammar.specs.Stack.{clauses-of, Owner, ExprStack, PatternStack, State}
 use Rattle.grammar.proofs.Classes.{Joins, comparison, pairing, sum, product, Tells}
 use Rattle.grammar.proofs.Elements.{made-none, made-more, element, patterns-made, clauses-made}
-use Rattle.grammar.proofs.Made.{OwnerMade, made-of-case, made-of-receive, ExprStackMade, made-binding, PatternStackMade, made-cons, made-group, made-tuple, made-before-equals, made-before-arrow, StateMade, at-want-expr, at-after-clauses, at-have-expr, at-want-pattern, at-after-pattern-quote, at-after-pattern-bracket, at-have-pattern, at-after-arrow, Goes, when-goes, behind, reshape}
+use Rattle.grammar.proofs.Made.{OwnerMade, made-of-case, made-of-receive, ExprStackMade, made-binding}
+use Rattle.grammar.proofs.Made.{PatternStackMade, made-cons, made-group, made-tuple, made-before-equals}
+use Rattle.grammar.proofs.Made.{made-before-arrow, StateMade, at-want-expr, at-after-clauses, at-have-expr}
+use Rattle.grammar.proofs.Made.{at-want-pattern, at-after-pattern-quote, at-after-pattern-bracket, at-have-pattern}
+use Rattle.grammar.proofs.Made.{at-after-arrow, Goes, when-goes, behind, reshape}
 
 -- :: puts the patterns that wait and the last one together
 pub reduce-pattern-sound :
-    {k : PatternStack} {u : List Name} → PatternStackMade k u → (p : Pattern) (s v : List Name) → PatternAt 0 s p → v ≡ u ++ s →
+    {k : PatternStack} {u : List Name} → PatternStackMade k u → (p : Pattern) (s v : List Name) →
+    PatternAt 0 s p → v ≡ u ++ s →
     (f : Pattern → PatternStack → Option State) (r : List Name) →
-    ((k : PatternStack) (u s : List Name) (p : Pattern) → PatternStackMade k u → PatternAt 0 s p → v ≡ u ++ s → Goes (f p k) r) →
+    ((k : PatternStack) (u s : List Name) (p : Pattern) → PatternStackMade k u → PatternAt 0 s p → v ≡ u ++ s →
+    Goes (f p k) r) →
     Goes (reduce-pattern p k f) r
 reduce-pattern-sound (made-cons {p = a} {s = x} st g q) p s v d is f r h =
-    reduce-pattern-sound st (p-cons a p) (x ++ (double-colon ∷ s)) v (cons-x g d) (is ∙ behind q s ∙ simp append-assoc) f r h
+    reduce-pattern-sound st (p-cons a p) (x ++ (double-colon ∷ s)) v (cons-x g d)
+    (is ∙ behind q s ∙ simp append-assoc) f r h
 reduce-pattern-sound (made-group st q) p s v d is f r h = h _ _ s p (made-group st q) d is
 reduce-pattern-sound (made-tuple st a q) p s v d is f r h = h _ _ s p (made-tuple st a q) d is
 reduce-pattern-sound (made-before-equals st a q) p s v d is f r h = h _ _ s p (made-before-equals st a q) d is
@@ -29,8 +41,8 @@ reduce-pattern-sound (made-before-arrow st o a q) p s v d is f r h = h _ _ s p (
 
 -- what follows a whole pattern: a closing bracket, a comma, =, ->
 pub close-pattern-sound :
-    {k : PatternStack} {u : List Name} → PatternStackMade k u → (b : Bracket) (p : Pattern) (s v : List Name) → PatternAt 0 s p →
-    v ≡ u ++ (s ++ (closing b ∷ [])) → Goes (close-pattern b p k) v
+    {k : PatternStack} {u : List Name} → PatternStackMade k u → (b : Bracket) (p : Pattern) (s v : List Name) →
+    PatternAt 0 s p → v ≡ u ++ (s ++ (closing b ∷ [])) → Goes (close-pattern b p k) v
 close-pattern-sound (made-cons st g q) b p s v d is = tt
 close-pattern-sound (made-group st q) paren p s v d is =
     at-have-pattern st (brackets-x d) (is ∙ behind q _ ∙ simp append-assoc)
@@ -68,7 +80,8 @@ begin-arm-sound (made-cons st g q) p s v d is = tt
 begin-arm-sound (made-group st q) p s v d is = tt
 begin-arm-sound (made-tuple st a q) p s v d is = tt
 begin-arm-sound (made-before-equals st a q) p s v d is = tt
-begin-arm-sound (made-before-arrow st h a q) p s v d is = at-after-arrow st h a d (is ∙ behind q _ ∙ simp append-assoc)
+begin-arm-sound (made-before-arrow st h a q) p s v d is =
+    at-after-arrow st h a d (is ∙ behind q _ ∙ simp append-assoc)
 
 -- clauses are read to their }
 pub close-clauses-sound :
@@ -80,8 +93,8 @@ close-clauses-sound {u = u} st (made-of-case d q) s v cs c is =
 close-clauses-sound st made-of-receive s v cs c is = at-after-clauses st c is
 
 pub close-without-sound :
-    {k : PatternStack} {u : List Name} → PatternStackMade k u → (b : Bracket) (v : List Name) → v ≡ u ++ (closing b ∷ []) →
-    Goes (close-without b k) v
+    {k : PatternStack} {u : List Name} → PatternStackMade k u → (b : Bracket) (v : List Name) →
+    v ≡ u ++ (closing b ∷ []) → Goes (close-without b k) v
 close-without-sound (made-cons st g q) b v is = tt
 close-without-sound (made-group st q) b v is = tt
 close-without-sound (made-tuple st made-none q) paren v is = tt
@@ -142,7 +155,8 @@ pub after-pattern-sound :
 after-pattern-sound st p s d w (c-number n) q = tt
 after-pattern-sound st p s d w (c-name x) q = tt
 after-pattern-sound {u = u} st p s d w (c-operator t m o) q =
-    when-goes (is-pair o) _ _ (λ h. at-want-pattern (made-cons st d (ap (λ z. u ++ (s ++ (z ∷ []))) (pair-is-cons (q .1) h))))
+    when-goes (is-pair o) _ _
+    (λ h. at-want-pattern (made-cons st d (ap (λ z. u ++ (s ++ (z ∷ []))) (pair-is-cons (q .1) h))))
 after-pattern-sound st p s d w (c-open b) q = tt
 after-pattern-sound st p s d w (c-close b) q =
     after-whole-sound st p s d w (closing b) q (close-pattern b) (λ k u i. close-pattern-sound i b)

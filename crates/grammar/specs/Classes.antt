@@ -7,8 +7,12 @@ use lib.ListN.{length}
 use lib.Chars.{codes}
 use lib.Dec.{leb}
 use Rattle.meaning.specs.Basics.{opt, Name, same}
-use Rattle.meaning.specs.Syntax.{plus, minus, times, divide, modulo, equal, unequal, less, at-most, Builtin, send, self, link, exit, trap, show, register, whereis, swap, Operation, make-pair, operate}
-use Rattle.meaning.specs.Grammar.{k-case, k-receive, k-catch, k-spawn, k-send, k-self, k-link, k-exit, k-trap, k-show, k-name, k-where, k-swap, underscore, open-paren, close-paren, open-bracket, open-brace, close-brace, comma, semicolon, equals, quote, arrow, double-colon, is-name, number-from}
+use Rattle.meaning.specs.Syntax.{plus, minus, times, divide, modulo, equal, unequal, less, at-most, Builtin, send}
+use Rattle.meaning.specs.Syntax.{self, link, exit, trap, show, register, whereis, swap, Operation, make-pair, operate}
+use Rattle.meaning.specs.Grammar.{k-case, k-receive, k-catch, k-spawn, k-send, k-self, k-link, k-exit, k-trap, k-show}
+use Rattle.meaning.specs.Grammar.{k-name, k-where, k-swap, underscore, open-paren, close-paren, open-bracket}
+use Rattle.meaning.specs.Grammar.{open-brace, close-brace, comma, semicolon, equals, quote, arrow, double-colon}
+use Rattle.meaning.specs.Grammar.{is-name, number-from}
 
 -- the brackets that others stand between: ( ) and { }
 pub data Bracket : Type 0 where
@@ -49,7 +53,7 @@ pub data Separator : Type 0 where
 pub data Class : Type 0 where
   c-number : ℕ → Class
   c-name : Name → Class
-  -- c-operator t m o: what waits and binds at least as tightly as t is applied before it; itself it binds as tightly as m
+  -- c-operator t m o: what waits and binds at least as tightly as t is applied before it; itself it binds as m
   c-operator : ℕ → ℕ → Operation → Class
   c-open : Bracket → Class
   c-close : Bracket → Class
@@ -67,8 +71,8 @@ abbrev pub entry : Name → Class → Entry
 entry x c = record { text = x; class = c }
 
 -- the tokens that are no numbers and no names.
--- A comparison (tightness 0) stands alone; :: (1) groups to the right, since a :: that waits is not applied before the next;
--- sums (2) and products (3) group to the left.
+-- A comparison (tightness 0) stands alone; :: (1) groups to the right, since a :: that waits is not applied before
+-- the next; sums (2) and products (3) group to the left.
 abbrev pub table : List Entry
 table =
     entry (codes "==") (c-operator 1 0 (operate equal))

@@ -2,7 +2,10 @@
 use mathlib.Core.List.{List, [], _∷_, _++_}
 use Prim.Native.Nat.{ℕ}
 use lib.Chars.{codes}
-use Rattle.meaning.specs.Syntax.{p-any, p-var, p-tuple, no-p, and-p, plus, minus, times, less, send, self, show, make-tuple, make-pair, call, spawn, operate, built-in, Expr, int, atom, var, nil, apply, receive, receive-until, Exprs, no-e, and-e, Body, last, bind, no-c, clause, Function, Program}
+use Rattle.meaning.specs.Syntax.{Pattern, p-any, p-var, p-tuple, no-p, and-p, plus, minus, times, less, send, self}
+use Rattle.meaning.specs.Syntax.{show, make-tuple, make-pair, call, spawn, operate, built-in, Expr, int, atom, var}
+use Rattle.meaning.specs.Syntax.{nil, apply, receive, receive-until, Exprs, no-e, and-e, Body, last, bind, no-c}
+use Rattle.meaning.specs.Syntax.{clause, Function, Program}
 
 abbrev pub one : Expr → Exprs
 one a = and-e a no-e
@@ -18,22 +21,28 @@ echo-text =
     ++ codes "fn main() { e = spawn echo(); send(e, {self(), 'hello}); "
     ++ codes "receive { x -> { show(x) } } until 100 { 'late } }"
 
+-- {from, x}
+abbrev pub request : Pattern
+request = p-tuple (and-p (p-var (codes "from")) (and-p (p-var (codes "x")) no-p))
+
 -- send(from, x); echo()
 abbrev pub send-back : Body
 send-back =
-    bind p-any (apply (built-in send) (two (var (codes "from")) (var (codes "x")))) (last (apply (call (codes "echo")) no-e))
+    bind p-any (apply (built-in send) (two (var (codes "from")) (var (codes "x"))))
+    (last (apply (call (codes "echo")) no-e))
 
 abbrev pub echo : Function
 echo = record {
   name = codes "echo";
   params = [];
-  body = last (receive (clause (p-tuple (and-p (p-var (codes "from")) (and-p (p-var (codes "x")) no-p))) send-back no-c));
+  body = last (receive (clause request send-back no-c));
 }
 
 -- send(e, {self(), 'hello})
 abbrev pub say-hello : Expr
 say-hello =
-    apply (built-in send) (two (var (codes "e")) (apply make-tuple (two (apply (built-in self) no-e) (atom (codes "hello")))))
+    apply (built-in send)
+    (two (var (codes "e")) (apply make-tuple (two (apply (built-in self) no-e) (atom (codes "hello")))))
 
 -- receive { x -> { show(x) } } until 100 { 'late }
 abbrev pub await : Expr
@@ -58,11 +67,14 @@ sums-text = codes "module m; fn main() { x = 1 - 2 - 3 * 4; y = (1 + x) :: 2 :: 
 -- (1 - 2) - (3 * 4)
 abbrev pub difference : Expr
 difference =
-    apply (operate minus) (two (apply (operate minus) (two (int 1) (int 2))) (apply (operate times) (two (int 3) (int 4))))
+    apply (operate minus)
+    (two (apply (operate minus) (two (int 1) (int 2))) (apply (operate times) (two (int 3) (int 4))))
 
 -- (1 + x) :: (2 :: [])
 abbrev pub pairs : Expr
-pairs = apply make-pair (two (apply (operate plus) (two (int 1) (var (codes "x")))) (apply make-pair (two (int 2) nil)))
+pairs =
+    apply make-pair
+    (two (apply (operate plus) (two (int 1) (var (codes "x")))) (apply make-pair (two (int 2) nil)))
 
 abbrev pub sums : Function
 sums = record {

@@ -4,10 +4,18 @@ use mathlib.Core.Bool.{Bool, true, false, _&&_, _||_, cond}
 use mathlib.Core.Option.{Option, some, none}
 use Prim.Native.Nat.{ℕ}
 use lib.Dec.{eqb, leb}
-use Rattle.meaning.specs.Syntax.{p-any, Builtin, send, self, link, exit, trap, show, register, whereis, swap, Operation, make-tuple, make-pair, call, far-call, spawn, far-spawn, operate, built-in, Expr, int, apply, receive-until, catch, Exprs, no-e, and-e, Body, last}
+use Rattle.meaning.specs.Syntax.{p-any, Builtin, send, self, link, exit, trap, show, register, whereis, swap}
+use Rattle.meaning.specs.Syntax.{Operation, make-tuple, make-pair, call, far-call, spawn, far-spawn, operate}
+use Rattle.meaning.specs.Syntax.{built-in, Expr, int, apply, receive-until, catch, Exprs, no-e, and-e, Body, last}
 use Rattle.meaning.specs.Grammar.{count}
-use Rattle.grammar.specs.Classes.{Bracket, paren, brace, same-bracket, Class, c-number, c-name, c-operator, c-open, c-close, c-builtin, c-start, c-separate, c-other, s-quote, s-bracket, s-underscore, s-case, s-receive, s-catch, s-spawn, s-comma, s-semicolon, s-equals, s-arrow}
-use Rattle.grammar.specs.Stack.{none-yet, snoc, statement, arm, exprs-of, body-of, no-module, in-module, of-case, ExprStack, operand, in-parens, in-list, in-case, in-until, in-statement, in-binding, BodyStack, in-arm, in-timeout, in-catch, in-function, before-arrow, State, want-expr, have-expr, after-name, want-operands, after-quote, after-bracket, after-spawn, after-receive, after-catch, want-statement, want-pattern, top-level, when}
+use Rattle.grammar.specs.Classes.{Bracket, paren, brace, same-bracket, Class, c-number, c-name, c-operator, c-open}
+use Rattle.grammar.specs.Classes.{c-close, c-builtin, c-start, c-separate, c-other, s-quote, s-bracket, s-underscore}
+use Rattle.grammar.specs.Classes.{s-case, s-receive, s-catch, s-spawn, s-comma, s-semicolon, s-equals, s-arrow}
+use Rattle.grammar.specs.Stack.{none-yet, snoc, statement, arm, exprs-of, body-of, no-module, in-module, of-case}
+use Rattle.grammar.specs.Stack.{ExprStack, operand, in-parens, in-list, in-case, in-until, in-statement, in-binding}
+use Rattle.grammar.specs.Stack.{BodyStack, in-arm, in-timeout, in-catch, in-function, before-arrow, State, want-expr}
+use Rattle.grammar.specs.Stack.{have-expr, after-name, want-operands, after-quote, after-bracket, after-spawn}
+use Rattle.grammar.specs.Stack.{after-receive, after-catch, want-statement, want-pattern, top-level, when}
 
 abbrev pub binary : Operation → Expr → Expr → Expr
 binary o a b = apply o (and-e a (and-e b no-e))

@@ -3,7 +3,8 @@ use mathlib.Core.Bool.{Bool, true, false}
 use mathlib.Core.List.{List, [], _∷_}
 use Prim.Native.Nat.{ℕ, zero, suc}
 use Rattle.meaning.specs.Basics.{Name}
-use Rattle.grammar.specs.Classes.{Class, c-number, c-name, c-operator, c-open, c-close, c-builtin, c-start, c-separate, c-other, s-comma, s-semicolon, s-equals, s-arrow, class-of}
+use Rattle.grammar.specs.Classes.{Class, c-number, c-name, c-operator, c-open, c-close, c-builtin, c-start}
+use Rattle.grammar.specs.Classes.{c-separate, c-other, s-comma, s-semicolon, s-equals, s-arrow, class-of}
 
 -- what a token is to who looks for the = of a statement
 pub data Landmark : Type 0 where
@@ -27,7 +28,8 @@ landmark (c-separate s-equals) = l-equals
 landmark (c-separate s-arrow) = l-none
 landmark c-other = l-none
 
--- go on with the depth of brackets after a landmark, or stop: yes at an = outside of brackets, no at the statement's end
+-- go on with the depth of brackets after a landmark, or stop: yes at an = outside of brackets,
+-- no at the statement's end
 abbrev pub pass : ℕ → Landmark → (ℕ → Bool) → Bool
 pass d l-open f = f (suc d)
 pass zero l-close f = false

@@ -3,13 +3,22 @@ use mathlib.Core.Bool.{cond}
 use mathlib.Core.List.{List, [], _∷_}
 use mathlib.Core.Option.{Option, some, none}
 use Rattle.meaning.specs.Basics.{on-some, Name, same}
-use Rattle.meaning.specs.Syntax.{p-nil, p-atom, far-call, call, spawn, far-spawn, atom, var, nil, receive, Clauses, Program}
-use Rattle.meaning.specs.Grammar.{k-module, k-fn, k-until, open-paren, close-paren, close-bracket, open-brace, comma, semicolon, colon, is-name, is-atom}
+use Rattle.meaning.specs.Syntax.{p-nil, p-atom, far-call, call, spawn, far-spawn, atom, var, nil, receive, Clauses}
+use Rattle.meaning.specs.Syntax.{Program}
+use Rattle.meaning.specs.Grammar.{k-module, k-fn, k-until, open-paren, close-paren, close-bracket, open-brace, comma}
+use Rattle.meaning.specs.Grammar.{semicolon, colon, is-name, is-atom}
 use Rattle.grammar.specs.Classes.{paren, class-of}
 use Rattle.grammar.specs.Expressions.{start-expr, after-expr}
 use Rattle.grammar.specs.LookAhead.{binds}
 use Rattle.grammar.specs.Patterns.{start-pattern, after-pattern}
-use Rattle.grammar.specs.Stack.{none-yet, snoc, list-of, Modules, no-module, in-module, program-of, of-receive, ExprStack, in-list, in-until, in-statement, in-arm, in-catch, in-function, before-equals, before-arrow, State, want-expr, have-expr, after-name, after-colon, want-operands, after-quote, after-bracket, after-spawn, after-spawn-name, after-spawn-colon, after-receive, after-clauses, after-catch, want-statement, want-pattern, have-pattern, after-pattern-quote, after-pattern-bracket, after-arrow, top-level, after-module, after-module-name, after-fn, after-fn-name, want-parameter, after-parameter, after-parameters, when}
+use Rattle.grammar.specs.Stack.{none-yet, snoc, list-of, Modules, no-module, in-module, program-of, of-receive}
+use Rattle.grammar.specs.Stack.{ExprStack, in-list, in-until, in-statement, in-arm, in-catch, in-function}
+use Rattle.grammar.specs.Stack.{before-equals, before-arrow, State, want-expr, have-expr, after-name, after-colon}
+use Rattle.grammar.specs.Stack.{want-operands, after-quote, after-bracket, after-spawn, after-spawn-name}
+use Rattle.grammar.specs.Stack.{after-spawn-colon, after-receive, after-clauses, after-catch, want-statement}
+use Rattle.grammar.specs.Stack.{want-pattern, have-pattern, after-pattern-quote, after-pattern-bracket, after-arrow}
+use Rattle.grammar.specs.Stack.{top-level, after-module, after-module-name, after-fn, after-fn-name, want-parameter}
+use Rattle.grammar.specs.Stack.{after-parameter, after-parameters, when}
 
 -- a token behind a name: a call, a name in another module, or the name is a variable
 abbrev pub name-ends : Name → ExprStack → Name → Option State

@@ -1,9 +1,15 @@
 -- Patterns: a token where one may begin, and a token behind one.
 use mathlib.Core.Bool.{Bool, true, false, cond}
 use mathlib.Core.Option.{Option, some, none}
-use Rattle.meaning.specs.Syntax.{Pattern, p-any, p-var, p-int, p-tuple, p-cons, no-p, and-p, Operation, make-tuple, make-pair, call, far-call, spawn, far-spawn, operate, built-in, case, Clauses, no-c}
-use Rattle.grammar.specs.Classes.{Bracket, paren, brace, same-bracket, Class, c-number, c-name, c-operator, c-open, c-close, c-builtin, c-start, c-separate, c-other, s-quote, s-bracket, s-underscore, s-case, s-receive, s-catch, s-spawn, s-comma, s-semicolon, s-equals, s-arrow}
-use Rattle.grammar.specs.Stack.{none-yet, snoc, patterns-of, clauses-of, Owner, of-case, of-receive, ExprStack, in-binding, PatternStack, in-cons, in-group, in-tuple, before-equals, before-arrow, State, want-expr, have-expr, after-clauses, want-pattern, have-pattern, after-pattern-quote, after-pattern-bracket, after-arrow, when}
+use Rattle.meaning.specs.Syntax.{Pattern, p-any, p-var, p-int, p-tuple, p-cons, no-p, and-p, Operation, make-tuple}
+use Rattle.meaning.specs.Syntax.{make-pair, call, far-call, spawn, far-spawn, operate, built-in, case, Clauses, no-c}
+use Rattle.grammar.specs.Classes.{Bracket, paren, brace, same-bracket, Class, c-number, c-name, c-operator, c-open}
+use Rattle.grammar.specs.Classes.{c-close, c-builtin, c-start, c-separate, c-other, s-quote, s-bracket, s-underscore}
+use Rattle.grammar.specs.Classes.{s-case, s-receive, s-catch, s-spawn, s-comma, s-semicolon, s-equals, s-arrow}
+use Rattle.grammar.specs.Stack.{none-yet, snoc, patterns-of, clauses-of, Owner, of-case, of-receive, ExprStack}
+use Rattle.grammar.specs.Stack.{in-binding, PatternStack, in-cons, in-group, in-tuple, before-equals, before-arrow}
+use Rattle.grammar.specs.Stack.{State, want-expr, have-expr, after-clauses, want-pattern, have-pattern}
+use Rattle.grammar.specs.Stack.{after-pattern-quote, after-pattern-bracket, after-arrow, when}
 
 -- } behind the clauses of a case or a receive
 abbrev pub close-clauses : Owner → Clauses → ExprStack → State

@@ -1,11 +1,13 @@
 -- What the machine holds between two tokens: the parts that are begun, each with what it waits for.
--- A stack is typed by what it waits for (an expression, a body, a pattern), so that no senseless stack can be written.
+-- A stack is typed by what it waits for (an expression, a body, a pattern), so that no
+-- senseless stack can be written.
 use mathlib.Core.Bool.{Bool, cond}
 use mathlib.Core.List.{List, [], _∷_}
 use mathlib.Core.Option.{Option, some, none}
 use Prim.Native.Nat.{ℕ}
 use Rattle.meaning.specs.Basics.{Name}
-use Rattle.meaning.specs.Syntax.{Pattern, Patterns, and-p, Operation, Expr, Exprs, and-e, Body, bind, Clauses, clause, Function, Module, Program}
+use Rattle.meaning.specs.Syntax.{Pattern, Patterns, and-p, Operation, Expr, Exprs, and-e, Body, bind, Clauses, clause}
+use Rattle.meaning.specs.Syntax.{Function, Module, Program}
 use Rattle.grammar.specs.Classes.{Bracket}
 
 -- a list that is read from the left: the newest element is the outermost

@@ -1,4 +1,5 @@
-//! How programs are read: a push-down machine that takes one token at a time, proved to read exactly the programs of the grammar.
+//! How programs are read: a push-down machine that takes one token at a time, proved to read exactly the programs
+//! of the grammar.
 ghost use Rattle.meaning.specs.Promise.{One-program};
 ghost use Rattle.meaning.specs.Grammar.{Reads};
 ghost use Rattle.grammar.specs.Promise.{Parse-exactly, Read-exactly, No-program};
