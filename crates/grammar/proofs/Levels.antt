@@ -1,5 +1,6 @@
 -- Which token may follow an expression of a level, and which operators may wait before it.
 -- An operator that waits and binds at least as tightly as what follows is applied; the others stay where they are.
+-- Each lemma goes through the classes of tokens, or through what a stack may have on top.
 use mathlib.Core.Path.{_≡_, refl, sym, subst}
 use mathlib.Core.Bool.{Bool, true, false, _&&_}
 use Prim.Native.Nat.{ℕ, zero, suc, _≤_, _<_}

@@ -1,5 +1,6 @@
 -- The look-ahead for the = of a statement passes over whole patterns and expressions: they leave the depth of
 -- brackets as it was, and hold no = and no ; outside of their own brackets.
+-- One clause for each rule of the grammar; texts are grouped to the right first, where they meet the rules again.
 use mathlib.Core.Path.{_≡_, refl, ap, _∙_}
 use mathlib.Core.List.{List, _∷_, _++_, append-assoc}
 use Prim.Native.Nat.{ℕ, suc}

@@ -1,4 +1,5 @@
 -- What the machine reads is a program of the grammar: at every step, the tokens read so far made the state.
+-- `step-sound` and `program-at-sound` go through the states, one by one.
 use mathlib.Core.Path.{_≡_, refl, sym, ap, subst, _∙_}
 use mathlib.Core.List.{List, [], _∷_, _++_, append-assoc, append-nil}
 use mathlib.Core.Option.{Option, some, none}
