@@ -1,0 +1,11 @@
+-- How programs are read. In reading order: what a token is, what is held between two tokens, expressions, patterns,
+-- the look-ahead, the machine, whole texts, what is promised of them, and examples.
+pub mod Classes
+pub mod Stack
+pub mod Expressions
+pub mod Patterns
+pub mod LookAhead
+pub mod Machine
+pub mod Reading
+pub mod Promise
+pub mod Examples
