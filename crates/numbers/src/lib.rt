@@ -1,0 +1,12 @@
+//! Whole numbers of 64 bits with a sign.
+//!
+//! Each operation looks at its operands before it is done, so that none wraps and none needs a wider type.
+
+mod order;
+mod sum;
+
+pub use order::at_most;
+pub use order::equal;
+pub use order::less;
+pub use sum::add;
+pub use sum::subtract;
