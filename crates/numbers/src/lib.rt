@@ -2,9 +2,13 @@
 //!
 //! Each operation looks at its operands before it is done, so that none wraps and none needs a wider type.
 
+mod division;
 mod order;
 mod sum;
 
+pub use division::Division;
+pub use division::divide;
+pub use division::modulo;
 pub use order::at_most;
 pub use order::equal;
 pub use order::less;

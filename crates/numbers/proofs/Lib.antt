@@ -1,0 +1,2 @@
+mod Rounding
+mod Dividing
