@@ -2,48 +2,27 @@
 -- neither 0 nor -1, so each is read back as it was computed; rounding gives the quotient and the remainder from them.
 use mathlib.Core.Bool.{Bool, true, false}
 use mathlib.Core.Path.{_≡_, refl, sym, ap, subst, _∙_}
-use Prim.Native.Nat.{ℕ, zero, suc, _+_, _-_, _*_, _/_, _%_, _^_, _≤_, _<_}
-use native.Mathlib.Nat.{add-div-right, div-le-self, div-lt-self, div-one}
+use Prim.Native.Nat.{zero, suc, _+_, _-_, _/_, _^_, _<_}
+use native.Mathlib.Nat.{add-div-right, div-le-self, div-lt-self}
 use native.Mathlib.Omega.{arith}
-use lib.IntN.{ℤ, pos, negsuc, negℤ, _+ℤ_, _-ℤ_}
-use lib.Signed.{mag, quotZ, remZ, mag-rem}
+use lib.IntN.{ℤ, pos, negsuc, _+ℤ_, _-ℤ_}
+use lib.Signed.{quotZ, remZ, mag-rem}
 use mir.Facts.{toZ-ofZ}
 use mir.Syntax.{w64}
-use mir.Val.{SFits, ofZ, toZ}
+use mir.Val.{SFits, ofZ}
 use mir.ValLaws.{sfits-le}
 use Rattle.std.proofs.shelf.Bits.{div-below}
 use Rattle.std.proofs.shelf.Signed.{ints}
-use Rattle.std.proofs.shelf.Tests.{lt-ltb, ne-eqb}
+use Rattle.std.proofs.shelf.Tests.{ne-eqb}
 use Rattle.meaning.specs.Values.{fits, is-zero, quotient, remainder}
 use Rattle.numbers.specs.declared.division.Division.the-variants.{Result}
 use Rattle.numbers.specs.Divided.{Divided, opposite}
+use Rattle.numbers.proofs.Fitting.{read, fits-true, negated-size, toward-zero-fits}
 use Rattle.numbers.proofs.Rounding.{positive, quotient-stays, quotient-lowers, remainder-stays, remainder-raises}
-
--- a number as the machine has it: to its bits and back
-abbrev pub read : ℤ → ℤ
-read z = toZ w64 (ofZ w64 z)
-
-pub fits-true : (z : ℤ) → SFits w64 z → fits z ≡ true
-fits-true (pos n) f = lt-ltb n (2 ^ 63) (f .sfits)
-fits-true (negsuc n) f = lt-ltb n (2 ^ 63) (f .sfits)
 
 not-zero : (b : ℤ) → (ofZ w64 b ≡ 0 → ⊥) → is-zero b ≡ false
 not-zero (pos b) h = ne-eqb b 0 h
 not-zero (negsuc b) h = refl
-
-negated-size : (n : ℕ) → mag (negℤ (pos n)) ≡ n - 1
-negated-size zero = refl
-negated-size (suc n) = omega arith
-
-toward-zero-fits : (a b : ℤ) → SFits w64 a → (ofZ w64 b ≡ 2 ^ 64 - 1 → ⊥) → SFits w64 (quotZ a b)
-toward-zero-fits (pos a) (pos b) f n = record { sfits = omega (arith, f .sfits, div-le-self a b) }
-toward-zero-fits (pos a) (negsuc b) f n =
-    record { sfits = omega (arith, f .sfits, div-le-self a (suc b), negated-size (a / suc b)) }
-toward-zero-fits (negsuc a) (pos b) f n =
-    record { sfits = omega (arith, f .sfits, div-le-self (suc a) b, negated-size (suc a / b)) }
-toward-zero-fits (negsuc a) (negsuc zero) f n = absurd (n refl)
-toward-zero-fits (negsuc a) (negsuc (suc b)) f n =
-    record { sfits = omega (arith, f .sfits, div-lt-self {n = suc a} {k = suc (suc b)} (omega arith) (omega arith)) }
 
 quotient-fits : (a b : ℤ) → SFits w64 a → is-zero b ≡ false → (ofZ w64 b ≡ 2 ^ 64 - 1 → ⊥) → SFits w64 (quotient a b)
 quotient-fits (pos a) (pos b) f z n = record { sfits = omega (arith, f .sfits, div-le-self a b) }

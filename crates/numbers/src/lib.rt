@@ -4,6 +4,7 @@
 
 mod division;
 mod order;
+mod product;
 mod sum;
 
 pub use division::Division;
@@ -12,5 +13,6 @@ pub use division::modulo;
 pub use order::at_most;
 pub use order::equal;
 pub use order::less;
+pub use product::multiply;
 pub use sum::add;
 pub use sum::subtract;
