@@ -6,6 +6,8 @@ mod division;
 mod order;
 mod product;
 mod sum;
+#[cfg(test)]
+mod tests;
 
 pub use division::Division;
 pub use division::divide;
