@@ -1,7 +1,7 @@
 -- A product by b fits exactly where the other factor lies between the ends of the range, each divided by b toward 0.
 -- By the signs of the factors that is one fact of naturals, in two of its four cases at the upper end and in two at the
 -- lower one: m is at most n / d exactly where m * d is at most n.
-use mathlib.Core.Bool.{Bool, true, false, _&&_}
+use mathlib.Core.Bool.{Bool, true, false, _&&_, and-true}
 use mathlib.Core.Logic.{⊎-elim}
 use mathlib.Core.Path.{_≡_, refl, sym, ap, _∙_}
 use Prim.Native.Nat.{ℕ, zero, suc, _-_, _*_, _/_, _^_, _≤_, _<_}
@@ -12,18 +12,21 @@ use lib.IntN.{ℤ, pos, negsuc, negℤ, _*ℤ_}
 use lib.Signed.{leZ, ltZ, quotZ}
 use mir.Facts.{toZ-ofZ}
 use mir.Syntax.{w64}
-use mir.Val.{SFits, ofZ}
+use mir.Val.{SFits}
 use Rattle.std.proofs.shelf.Signed.{ints}
 use Rattle.std.proofs.shelf.Tests.{cases-lt, le-leb, lt-leb}
 use Rattle.meaning.specs.Values.{fits}
-use Rattle.numbers.proofs.Fitting.{read, toward-zero-fits}
+use Rattle.numbers.proofs.Fitting.{read, Not-zero, Not-minus-one, truncated-fits}
 
 -- the ends of the range
 abbrev least : ℤ
-least = negsuc 9223372036854775807
+least = negsuc (2 ^ 63 - 1)
 
 abbrev greatest : ℤ
-greatest = pos 9223372036854775807
+greatest = pos (2 ^ 63 - 1)
+
+abbrev between : ℤ → ℤ → ℤ → Bool
+between low a high = leZ low a && leZ a high
 
 -- m is at most n / d exactly where m * d is at most n
 leb-div : (m n d : ℕ) → 0 < d → leb m (n / d) ≡ leb (m * d) n
@@ -42,55 +45,55 @@ leZ-negated-negsuc : (n m : ℕ) → leZ (negℤ (pos n)) (negsuc m) ≡ leb (su
 leZ-negated-negsuc zero m = sym (lt-leb (suc m) 0 (omega arith))
 leZ-negated-negsuc (suc n) m = sym (leb·suc-suc m n)
 
-fits-pos : (n : ℕ) → leb n 9223372036854775807 ≡ fits (pos n)
-fits-pos n = sym (leb·suc-suc n 9223372036854775807)
+fits-pos : (n : ℕ) → leb n (2 ^ 63 - 1) ≡ fits (pos n)
+fits-pos n = sym (leb·suc-suc n (2 ^ 63 - 1))
 
-fits-negated : (n : ℕ) → leb n 9223372036854775808 ≡ fits (negℤ (pos n))
+fits-negated : (n : ℕ) → leb n (2 ^ 63) ≡ fits (negℤ (pos n))
 fits-negated zero = refl
 fits-negated (suc n) = refl
 
-and-true : (t : Bool) → (t && true) ≡ t
-and-true true = refl
-and-true false = refl
-
 -- a factor between the ends, divided by a number above 0, and by one below it
-fits-by-positive : (a : ℤ) (d : ℕ) → 0 < d → (leZ (quotZ least (pos d)) a && leZ a (quotZ greatest (pos d))) ≡ fits (a *ℤ pos d)
+fits-by-positive : (a : ℤ) (d : ℕ) → 0 < d
+    → between (quotZ least (pos d)) a (quotZ greatest (pos d)) ≡ fits (a *ℤ pos d)
 fits-by-positive (pos m) d h =
-    ap (λ (t : Bool). t && leb m (9223372036854775807 / d)) (leZ-negated-pos (9223372036854775808 / d) m)
-    ∙ leb-div m 9223372036854775807 d h ∙ fits-pos (m * d)
+    ap (λ (t : Bool). t && leb m ((2 ^ 63 - 1) / d)) (leZ-negated-pos (2 ^ 63 / d) m)
+    ∙ leb-div m (2 ^ 63 - 1) d h ∙ fits-pos (m * d)
 fits-by-positive (negsuc m) d h =
-    and-true (leZ (quotZ least (pos d)) (negsuc m)) ∙ leZ-negated-negsuc (9223372036854775808 / d) m
-    ∙ leb-div (suc m) 9223372036854775808 d h ∙ fits-negated (suc m * d)
+    and-true (leZ (quotZ least (pos d)) (negsuc m)) ∙ leZ-negated-negsuc (2 ^ 63 / d) m
+    ∙ leb-div (suc m) (2 ^ 63) d h ∙ fits-negated (suc m * d)
 
-fits-by-negative : (a : ℤ) (e : ℕ) → (leZ (quotZ greatest (negsuc e)) a && leZ a (quotZ least (negsuc e))) ≡ fits (a *ℤ negsuc e)
+fits-by-negative : (a : ℤ) (e : ℕ)
+    → between (quotZ greatest (negsuc e)) a (quotZ least (negsuc e)) ≡ fits (a *ℤ negsuc e)
 fits-by-negative (pos m) e =
-    ap (λ (t : Bool). t && leb m (9223372036854775808 / suc e)) (leZ-negated-pos (9223372036854775807 / suc e) m)
-    ∙ leb-div m 9223372036854775808 (suc e) (omega arith) ∙ fits-negated (m * suc e)
+    ap (λ (t : Bool). t && leb m (2 ^ 63 / suc e)) (leZ-negated-pos ((2 ^ 63 - 1) / suc e) m)
+    ∙ leb-div m (2 ^ 63) (suc e) (omega arith) ∙ fits-negated (m * suc e)
 fits-by-negative (negsuc m) e =
-    and-true (leZ (quotZ greatest (negsuc e)) (negsuc m)) ∙ leZ-negated-negsuc (9223372036854775807 / suc e) m
-    ∙ leb-div (suc m) 9223372036854775807 (suc e) (omega arith) ∙ fits-pos (suc m * suc e)
+    and-true (leZ (quotZ greatest (negsuc e)) (negsuc m)) ∙ leZ-negated-negsuc ((2 ^ 63 - 1) / suc e) m
+    ∙ leb-div (suc m) (2 ^ 63 - 1) (suc e) (omega arith) ∙ fits-pos (suc m * suc e)
 
 -- the test as the machine makes it
-least-over : (b : ℤ) → (ofZ w64 b ≡ 2 ^ 64 - 1 → ⊥) → SFits w64 (quotZ least b)
-least-over b n = toward-zero-fits least b (record { sfits = lit< tt }) n
+least-over : (b : ℤ) → Not-minus-one b → SFits w64 (quotZ least b)
+least-over b n = truncated-fits least b (record { sfits = lit< tt }) n
 
-greatest-over : (b : ℤ) → (ofZ w64 b ≡ 2 ^ 64 - 1 → ⊥) → SFits w64 (quotZ greatest b)
-greatest-over b n = toward-zero-fits greatest b (record { sfits = lit< tt }) n
+greatest-over : (b : ℤ) → Not-minus-one b → SFits w64 (quotZ greatest b)
+greatest-over b n = truncated-fits greatest b (record { sfits = lit< tt }) n
 
-pub fits-below : (a b : ℤ) → SFits w64 a → SFits w64 b → (ofZ w64 b ≡ 2 ^ 64 - 1 → ⊥) → ltZ (read b) (pos 0) ≡ true
-    → (leZ (read (quotZ greatest (read b))) (read a) && leZ (read a) (read (quotZ least (read b)))) ≡ fits (a *ℤ b)
+pub fits-below : (a b : ℤ) → SFits w64 a → SFits w64 b → Not-minus-one b → ltZ (read b) (pos 0) ≡ true
+    → between (read (quotZ greatest (read b))) (read a) (read (quotZ least (read b))) ≡ fits (a *ℤ b)
 fits-below a b f g n t =
-    simp (toZ-ofZ f, toZ-ofZ g, toZ-ofZ (greatest-over b n), toZ-ofZ (least-over b n)) (by-sign b (simp (toZ-ofZ g) at t))
+    simp (toZ-ofZ f, toZ-ofZ g, toZ-ofZ (greatest-over b n), toZ-ofZ (least-over b n))
+    (by-sign b (simp (toZ-ofZ g) at t))
   where
-    by-sign : (b : ℤ) → ltZ b (pos 0) ≡ true → (leZ (quotZ greatest b) a && leZ a (quotZ least b)) ≡ fits (a *ℤ b)
+    by-sign : (b : ℤ) → ltZ b (pos 0) ≡ true → between (quotZ greatest b) a (quotZ least b) ≡ fits (a *ℤ b)
     by-sign (pos d) t = absurd (omega (arith, ints))
     by-sign (negsuc e) t = fits-by-negative a e
 
-pub fits-above : (a b : ℤ) → SFits w64 a → SFits w64 b → (ofZ w64 b ≡ 0 → ⊥) → (ofZ w64 b ≡ 2 ^ 64 - 1 → ⊥) → ltZ (read b) (pos 0) ≡ false
-    → (leZ (read (quotZ least (read b))) (read a) && leZ (read a) (read (quotZ greatest (read b)))) ≡ fits (a *ℤ b)
+pub fits-above : (a b : ℤ) → SFits w64 a → SFits w64 b → Not-zero b → Not-minus-one b → ltZ (read b) (pos 0) ≡ false
+    → between (read (quotZ least (read b))) (read a) (read (quotZ greatest (read b))) ≡ fits (a *ℤ b)
 fits-above a b f g z n t =
-    simp (toZ-ofZ f, toZ-ofZ g, toZ-ofZ (greatest-over b n), toZ-ofZ (least-over b n)) (by-sign b z (simp (toZ-ofZ g) at t))
+    simp (toZ-ofZ f, toZ-ofZ g, toZ-ofZ (greatest-over b n), toZ-ofZ (least-over b n))
+    (by-sign b z (simp (toZ-ofZ g) at t))
   where
-    by-sign : (b : ℤ) → (ofZ w64 b ≡ 0 → ⊥) → ltZ b (pos 0) ≡ false → (leZ (quotZ least b) a && leZ a (quotZ greatest b)) ≡ fits (a *ℤ b)
+    by-sign : (b : ℤ) → Not-zero b → ltZ b (pos 0) ≡ false → between (quotZ least b) a (quotZ greatest b) ≡ fits (a *ℤ b)
     by-sign (pos d) z t = fits-by-positive a d (omega arith)
     by-sign (negsuc e) z t = absurd (omega (arith, ints))

@@ -1,5 +1,4 @@
--- What a division gives: by 0 nothing; otherwise its exact result where that fits, and that it is too big exactly where
--- it does not.
+-- What a division gives: where the divisor is not 0, its exact result if that fits, and else that it is too big.
 use mathlib.Core.Bool.{Bool, true, false}
 use mathlib.Core.Path.{_≡_}
 use lib.IntN.{ℤ, pos, negsuc}
@@ -14,7 +13,7 @@ Divided ByZero b z = is-zero b ≡ true
 Divided TooBig b z = (is-zero b ≡ false) × (fits z ≡ false)
 Divided (Result x) b z = (is-zero b ≡ false) × (fits z ≡ true) × (x ≡ z)
 
--- what is left over, r, has another sign than the divisor
+-- a remainder r is not 0 and has another sign than the divisor
 abbrev pub opposite : ℤ → ℤ → Bool
 opposite r (pos b) = ltZ r (pos 0)
 opposite r (negsuc b) = ltZ (pos 0) r

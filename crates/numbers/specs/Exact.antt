@@ -1,4 +1,4 @@
--- What an operation on numbers of 64 bits gives: its exact result where that fits, and nothing exactly where it does not.
+-- What an operation on numbers of 64 bits gives: its exact result where that fits, and nothing where it does not.
 use mathlib.Core.Bool.{true, false}
 use mathlib.Core.Path.{_≡_}
 use lib.IntN.{ℤ}

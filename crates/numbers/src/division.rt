@@ -26,16 +26,16 @@ pub fn divide(a: i64, b: i64) -> Division
     if b == -1 {
         return negate(a);
     }
-    // Rounded toward 0, which is up where what is left over has another sign than the divisor.
-    let toward_zero = a / b;
+    // The machine rounds toward 0: that is up where the remainder has another sign than the divisor.
+    let truncated = a / b;
     if has_other_sign(a % b, b) {
-        Division::Result(toward_zero - 1)
+        Division::Result(truncated - 1)
     } else {
-        Division::Result(toward_zero)
+        Division::Result(truncated)
     }
 }
 
-/// What is left over where `a` is divided by `b` and the quotient rounded down.
+/// The remainder of `a` and `b` where the quotient is rounded down: 0, or a number of the sign of `b`.
 pub fn modulo(a: i64, b: i64) -> Division
     ensures { λ r. ⌜ Divided r b (remainder a b) ⌝ }
 {
@@ -45,19 +45,23 @@ pub fn modulo(a: i64, b: i64) -> Division
     if b == -1 {
         return Division::Result(0);
     }
-    let left_over = a % b;
-    if has_other_sign(left_over, b) {
-        Division::Result(left_over + b)
+    let truncated = a % b;
+    if has_other_sign(truncated, b) {
+        Division::Result(truncated + b)
     } else {
-        Division::Result(left_over)
+        Division::Result(truncated)
     }
 }
 
-// The quotient of `a` and -1: the one quotient that may not fit.
+// The quotient of `a` and -1, the one divisor by which a quotient may not fit.
 fn negate(a: i64) -> Division
     ensures { λ r. ⌜ Divided r (negsuc 0) (quotient a (negsuc 0)) ⌝ }
 {
-    if a == i64::MIN { Division::TooBig } else { Division::Result(-a) }
+    if a == i64::MIN {
+        Division::TooBig
+    } else {
+        Division::Result(-a)
+    }
 }
 
 // Whether `rest` is above 0 and `divisor` below it, or the other way round.

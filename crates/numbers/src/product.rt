@@ -11,11 +11,15 @@ ghost use Rattle.numbers.specs.Exact.{Exact};
 pub fn multiply(a: i64, b: i64) -> Option<i64>
     ensures { λ r. ⌜ Exact r (a *ℤ b) ⌝ }
 {
-    if product_fits(a, b) { Some(a * b) } else { None }
+    if product_fits(a, b) {
+        Some(a * b)
+    } else {
+        None
+    }
 }
 
-// Whether `a * b` fits: `a` lies between the ends of the range, each divided by `b`. The lower end divided by -1 does not
-// fit itself.
+// Whether `a * b` fits: `a` lies between the ends of the range, each divided by `b`. The lower end divided by -1 does
+// not fit itself.
 fn product_fits(a: i64, b: i64) -> bool
     ensures { λ r. ⌜ r ≡ fits (a *ℤ b) ⌝ }
 {

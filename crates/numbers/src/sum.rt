@@ -7,7 +7,11 @@ ghost use Rattle.numbers.specs.Exact.{Exact};
 pub fn add(a: i64, b: i64) -> Option<i64>
     ensures { λ r. ⌜ Exact r (a +ℤ b) ⌝ }
 {
-    let fits = if b < 0 { i64::MIN - b <= a } else { a <= i64::MAX - b };
+    let fits = if b < 0 {
+        i64::MIN - b <= a
+    } else {
+        a <= i64::MAX - b
+    };
     if fits { Some(a + b) } else { None }
 }
 
@@ -15,6 +19,10 @@ pub fn add(a: i64, b: i64) -> Option<i64>
 pub fn subtract(a: i64, b: i64) -> Option<i64>
     ensures { λ r. ⌜ Exact r (a -ℤ b) ⌝ }
 {
-    let fits = if b < 0 { a <= i64::MAX + b } else { i64::MIN + b <= a };
+    let fits = if b < 0 {
+        a <= i64::MAX + b
+    } else {
+        i64::MIN + b <= a
+    };
     if fits { Some(a - b) } else { None }
 }

@@ -67,8 +67,18 @@ fn divisions() -> Result<(), Fail> {
         (-7, -2, Division::Result(3), Division::Result(-1)),
         (i64::MIN, -1, Division::TooBig, Division::Result(0)),
         (i64::MIN, 1, Division::Result(i64::MIN), Division::Result(0)),
-        (i64::MIN, i64::MAX, Division::Result(-2), Division::Result(i64::MAX - 1)),
-        (i64::MAX, i64::MIN, Division::Result(-1), Division::Result(-1)),
+        (
+            i64::MIN,
+            i64::MAX,
+            Division::Result(-2),
+            Division::Result(i64::MAX - 1),
+        ),
+        (
+            i64::MAX,
+            i64::MIN,
+            Division::Result(-1),
+            Division::Result(-1),
+        ),
         (0, 0, Division::ByZero, Division::ByZero),
     ];
     for (a, b, quotient, remainder) in table.iter() {

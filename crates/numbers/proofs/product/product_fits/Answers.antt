@@ -10,4 +10,5 @@ returns-then-b-lt0 c =
 pub returns-else-b-lt0 : need.returns-else-b-lt0
 returns-else-b-lt0 c =
     c .lies-between-else-b-lt0 .ensures
-    ∙ fits-above (c .args .a) (c .args .b) (c .fits .a) (c .fits .b) (c .if-b-eq0 .left) (c .if-b-eqminus1 .left) (c .if-b-lt0 .left)
+    ∙ fits-above (c .args .a) (c .args .b) (c .fits .a) (c .fits .b)
+    (c .if-b-eq0 .left) (c .if-b-eqminus1 .left) (c .if-b-lt0 .left)
