@@ -18,8 +18,8 @@ use Rattle.meaning.specs.Promise.{Left-alone, Can-stays}
 use Rattle.meaning.specs.Effects.{Effect, nothing, sent, spawned, linked-gone, exited, linked, trapped, showed, named, took, Turned, turn-goes, turn-ends, turn-swaps, turn-swapped-out, turn-stuck}
 use Rattle.meaning.proofs.Splits.{T-of, is-true, no-clash, cond-all, opt-all, bool-all, none-some, eqb-is, eqb-isnt}
 use Rattle.meaning.proofs.Finding.{find-gone-same, Keeps, find-gone-other}
-use Rattle.meaning.proofs.Sound.{OnIs, on-is-of, SoundS, turn-all}
-use Rattle.meaning.proofs.Parts.{AloneAt, turned-alone, change-found, reached-sound}
+use Rattle.meaning.proofs.Links.{OnIs, on-is-of, SoundS, turn-all}
+use Rattle.meaning.proofs.Alone.{AloneAt, turned-alone, change-found, reached-sound}
 
 abbrev pub ripe : Until → ℕ → Bool
 ripe for-ever t = false

@@ -18,10 +18,10 @@ use Rattle.meaning.specs.Promise.{Few-numbers, Names-live}
 use Rattle.meaning.specs.Effects.{Effect, nothing, sent, spawned, linked-gone, exited, linked, trapped, showed, named, took, Turned, turn-goes, turn-ends, turn-swaps, turn-swapped-out, turn-stuck}
 use Rattle.meaning.proofs.Splits.{cond-all, opt-all, some-is, none-some, eqb-isnt}
 use Rattle.meaning.proofs.Finding.{Keeps, find-gone-other, find-append-some}
-use Rattle.meaning.proofs.Sound.{OnIs, on-is-of, add-link-keeps, turn-all}
-use Rattle.meaning.proofs.Parts.{begin-all, reached-all}
+use Rattle.meaning.proofs.Links.{OnIs, on-is-of, add-link-keeps, turn-all}
+use Rattle.meaning.proofs.Alone.{begin-all, reached-all}
 use Rattle.meaning.proofs.Told.{change-stays}
-use Rattle.meaning.proofs.Local.{tick-all}
+use Rattle.meaning.proofs.OwnCode.{tick-all}
 
 -- the next number grows by at most one
 abbrev Up : System → System → Type 0

@@ -18,7 +18,7 @@ use Rattle.meaning.specs.Moves.{turn, signal, is, settle, time-of, move, take-
 use Rattle.meaning.specs.Effects.{From, own, other, Effect, nothing, took, spawned, showed, sent, linked, linked-gone, exited, trapped, named, Turned, turn-goes, turn-ends, turn-swaps, turn-swapped-out, turn-stuck}
 use Rattle.meaning.specs.Scheduler.{Numbered}
 use Rattle.meaning.proofs.Finding.{Keeps, find-change-none, find-gone-none, find-change-other, find-gone-other, find-changed, find-append-some, find-append-none, apart-change, apart-gone, find-gone-same, apart-new, find-here, find-there}
-use Rattle.meaning.proofs.Sound.{OnIs, on-is-of, turn-all}
+use Rattle.meaning.proofs.Links.{OnIs, on-is-of, turn-all}
 use Rattle.meaning.proofs.Splits.{either}
 
 -- what another may do to a worker: the same code at work, and perhaps more mail

@@ -19,9 +19,9 @@ use Rattle.meaning.proofs.Queue.{At-none, Mem-cases, behind}
 use Rattle.meaning.proofs.Finding.{find-here, find-there, find-pid}
 use Rattle.meaning.proofs.Splits.{either}
 use Rattle.meaning.proofs.Past.{after-turn, after-signal}
-use Rattle.meaning.proofs.Model.{turn-on, turn-back, turn-over, signalled, at-round, time-goes, next-round, popped}
-use Rattle.meaning.proofs.Scan.{newly, woken-time, quiet-now}
-use Rattle.meaning.proofs.Start.{due-turn}
+use Rattle.meaning.proofs.Actions.{turn-on, turn-back, turn-over, signalled, at-round, time-goes, next-round, popped}
+use Rattle.meaning.proofs.Scanning.{newly, woken-time, quiet-now}
+use Rattle.meaning.proofs.Beginning.{due-turn}
 
 -- those of a list that pass a test
 pub those : (Worker → Bool) → List Worker → List Entry

@@ -12,10 +12,10 @@ use Rattle.meaning.specs.Moves.{Move, turn, no-meaning, on-is, move, moves, qu
 use Rattle.meaning.specs.Grammar.{Reads}
 use Rattle.meaning.specs.Scheduler.{Entry, Mode, So-far}
 use Rattle.meaning.specs.Rounds.{Budget, Soon, Scheduler-laws}
-use Rattle.meaning.proofs.Meant.{never-stuck}
-use Rattle.meaning.proofs.Model.{turn-on, turn-back, turn-over, signalled, at-round, time-goes, next-round, popped}
-use Rattle.meaning.proofs.Start.{moves-append, so-far-none, one-more, so-far-fair, due-turn}
-use Rattle.meaning.proofs.Scan.{quiet-now}
+use Rattle.meaning.proofs.NeverStuck.{never-stuck}
+use Rattle.meaning.proofs.Actions.{turn-on, turn-back, turn-over, signalled, at-round, time-goes, next-round, popped}
+use Rattle.meaning.proofs.Beginning.{moves-append, so-far-none, one-more, so-far-fair, due-turn}
+use Rattle.meaning.proofs.Scanning.{quiet-now}
 use Rattle.meaning.proofs.Progress.{goes-on-always}
 
 no-meaning-next : (g : Program) (b s : System) (l : List Move) (m : Mode) (es : List Entry) (n : ℕ) → So-far g b l s m es → move g s (turn n) ≡ no-meaning → moves g b (l ++ (turn n ∷ [])) ≡ no-meaning

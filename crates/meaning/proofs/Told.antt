@@ -17,8 +17,8 @@ use Rattle.meaning.specs.Promise.{Behind, Linked-told, end-reason, oldest-reas
 use Rattle.meaning.specs.Effects.{Effect, nothing, sent, spawned, linked-gone, exited, linked, trapped, showed, named, took, Turned, turn-goes, turn-ends, turn-swaps, turn-swapped-out, turn-stuck}
 use Rattle.meaning.proofs.Splits.{no-clash, cond-all, opt-all, cond-true, bool-all, some-is, none-some, eqb-yes, eqb-is, eqb-isnt}
 use Rattle.meaning.proofs.Finding.{Keeps, find-pid, find-gone-other, find-append-some}
-use Rattle.meaning.proofs.Sound.{OnIs, on-is-of, add-link-keeps, SoundS, turn-all}
-use Rattle.meaning.proofs.Parts.{change-found, end-old-spares, reached-sound}
+use Rattle.meaning.proofs.Links.{OnIs, on-is-of, add-link-keeps, SoundS, turn-all}
+use Rattle.meaning.proofs.Alone.{change-found, end-old-spares, reached-sound}
 
 -- nobody is gone by a change
 pub change-stays : (ws : List Worker) (n : ℕ) (f : Worker → Worker) → Keeps f → (q : ℕ) (w : Worker) → find ws q ≡ some w → (x : Worker) × (find (change ws n f) q ≡ some x)

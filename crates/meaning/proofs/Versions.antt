@@ -17,9 +17,9 @@ use Rattle.meaning.specs.Moves.{Move, turn, signal, tick, Result, is, not-allo
 use Rattle.meaning.specs.Promise.{Reached, Two-versions, ahead-control, ahead-frame, ahead-frames, None-ahead}
 use Rattle.meaning.specs.Effects.{Effect, nothing, sent, spawned, linked-gone, exited, linked, trapped, showed, named, took, Turned, turn-goes, turn-ends, turn-swaps, turn-swapped-out, turn-stuck}
 use Rattle.meaning.proofs.Splits.{T-of, is-true, is-false, no-clash, cond-all, opt-all, cond-false, bool-all, some-is, none-some, same-is, same-refl, OnSome}
-use Rattle.meaning.proofs.Sound.{OnIs, SoundS, gone-sub, turn-all, move-sound}
-use Rattle.meaning.proofs.Parts.{at-first, reached-all, first-sound, end-old-ends, end-old-loaded, current-now}
-use Rattle.meaning.proofs.Local.{HasAll, sub-all, settle-all, soft-all, tick-all, Next, end-old-sub, AllC, AllF, AllK, code-all, turn-versions}
+use Rattle.meaning.proofs.Links.{OnIs, SoundS, gone-sub, turn-all, move-sound}
+use Rattle.meaning.proofs.Alone.{at-first, reached-all, first-sound, end-old-ends, end-old-loaded, current-now}
+use Rattle.meaning.proofs.OwnCode.{HasAll, sub-all, settle-all, soft-all, tick-all, Next, end-old-sub, AllC, AllF, AllK, code-all, turn-versions}
 
 abbrev pub Span : List Loaded → Name → ℕ → Type 0
 Span ls h v = (n : ℕ) → current ls h ≡ some n → (n ≤ v + 1) × (v ≤ n)

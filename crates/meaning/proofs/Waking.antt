@@ -18,8 +18,8 @@ use Rattle.meaning.proofs.Finding.{find-here, find-there, Keeps, find-change-o
 use Rattle.meaning.proofs.Ready.{can-is, ready, due, has, has-front}
 use Rattle.meaning.proofs.Past.{some-or-none}
 use Rattle.meaning.proofs.Splits.{either}
-use Rattle.meaning.proofs.Carry.{not-both}
-use Rattle.meaning.proofs.Model.{woken-none, woken-one, same-could}
+use Rattle.meaning.proofs.Exact.{not-both}
+use Rattle.meaning.proofs.Actions.{woken-none, woken-one, same-could}
 
 -- nobody but n is seen changed
 pub woken-same : (g : Program) (n : ℕ) (s t : System) → t .clock ≡ s .clock → ((q : ℕ) → (q ≡ n → ⊥) → find (t .workers) q ≡ find (s .workers) q) → Woken g n s t []

@@ -17,10 +17,10 @@ use Rattle.meaning.specs.Promise.{Quiet-means, Newly-able, Clock-goes}
 use Rattle.meaning.specs.Effects.{Effect, nothing, sent, spawned, linked-gone, exited, linked, trapped, showed, named, took, Turned, turn-goes, turn-ends, turn-swaps, turn-swapped-out, turn-stuck}
 use Rattle.meaning.proofs.Splits.{T-of, is-true, no-clash, cond-all, opt-all, cond-true, bool-all, some-is, none-some, eqb-yes, eqb-is}
 use Rattle.meaning.proofs.Finding.{find-change-other}
-use Rattle.meaning.proofs.Sound.{OnR, OnIs, on-is-of, SoundS, back, new-back, gone-sub, add-link-keeps, turn-all}
-use Rattle.meaning.proofs.Parts.{reached-sound}
-use Rattle.meaning.proofs.Local.{end-old-sub}
-use Rattle.meaning.proofs.Meant.{WfS, GMs, reads-good, move-wf, reached-wf}
+use Rattle.meaning.proofs.Links.{OnR, OnIs, on-is-of, SoundS, back, new-back, gone-sub, add-link-keeps, turn-all}
+use Rattle.meaning.proofs.Alone.{reached-sound}
+use Rattle.meaning.proofs.OwnCode.{end-old-sub}
+use Rattle.meaning.proofs.NeverStuck.{WfS, GMs, reads-good, move-wf, reached-wf}
 use Rattle.meaning.proofs.Able.{canC, can-is, turned-clock}
 
 -- a worker of the list is the one found under its number

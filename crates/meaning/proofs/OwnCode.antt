@@ -19,7 +19,7 @@ use Rattle.meaning.specs.Effects.{From, own, other, Effect, nothing, sent, spa
 use Rattle.meaning.proofs.Splits.{cond-all, opt-all, some-is, OnSome, on-some-is}
 use Rattle.meaning.proofs.Finding.{Keeps, apart-gone}
 use Rattle.meaning.proofs.Effects.{Arity, Act, acts-value, acts-error, acts-call, acts-swap, acts-swapped-out, acts-stuck, perform-view}
-use Rattle.meaning.proofs.Sound.{back, new-back, add-link-keeps, Sub, gone-sub, OnR}
+use Rattle.meaning.proofs.Links.{back, new-back, add-link-keeps, Sub, gone-sub, OnR}
 
 -- every worker of t was there with the same code and frames, or is new and has the property
 abbrev pub OldOr : (Control → Type 0) → System → System → Type 0

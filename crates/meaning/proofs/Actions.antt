@@ -22,7 +22,7 @@ use Rattle.meaning.proofs.Finding.{find-here, find-there}
 use Rattle.meaning.proofs.Ready.{can-is, ready, due}
 use Rattle.meaning.proofs.Past.{More, More-same, Now, Past, after-turn, after-signal, some-or-none}
 use Rattle.meaning.proofs.Splits.{either}
-use Rattle.meaning.proofs.Carry.{still, keeps, not-both, Mem-left, Mem-right, Mem-split, alive-kept, alive-not, kept-round, go-on, over, back, ticked, now-all, Distinct-append}
+use Rattle.meaning.proofs.Exact.{still, keeps, not-both, Mem-left, Mem-right, Mem-split, alive-kept, alive-not, kept-round, go-on, over, back, ticked, now-all, Distinct-append}
 
 Before-cases : {x y z : Entry} {es : List Entry} → Before x y (z ∷ es) → ((x ≡ z) × Mem y es) ⊎ Before x y es
 Before-cases (first m) = inl (refl, m)

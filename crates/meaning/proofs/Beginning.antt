@@ -19,7 +19,7 @@ use Rattle.meaning.specs.Fair.{Could, Fair}
 use Rattle.meaning.specs.Scheduler.{Good, Due, first, next, So-far, Entry, round, worker, Mode, flush, here, Mem, Step, by-turn, by-signal, by-tick, by-round, by-pop, Steps, start, and-step}
 use Rattle.meaning.proofs.Queue.{At-none, Mem-cases, behind}
 use Rattle.meaning.proofs.Finding.{find-here, find-there, find-changed, find-pid}
-use Rattle.meaning.proofs.Stretch.{fair-always}
+use Rattle.meaning.proofs.Fairness.{fair-always}
 use Rattle.meaning.proofs.Ready.{can-is, ready}
 use Rattle.meaning.proofs.Splits.{either}
 

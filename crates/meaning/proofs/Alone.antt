@@ -19,7 +19,7 @@ use Rattle.meaning.specs.Promise.{Begins, Reached, Left-alone, Alone, Links-bo
 use Rattle.meaning.specs.Effects.{Effect, nothing, sent, spawned, linked-gone, exited, linked, trapped, showed, named, took, Turned, turn-goes, turn-ends, turn-swaps, turn-swapped-out, turn-stuck}
 use Rattle.meaning.proofs.Splits.{and-T, no-clash, cond-all, cond-true, cond-false, bool-all, some-is, none-some, eqb-is, eqb-isnt, same-refl, OnSome}
 use Rattle.meaning.proofs.Finding.{Keeps, find-change-other, find-change-same, find-gone-other, find-gone-same, find-append-some, apart-gone}
-use Rattle.meaning.proofs.Sound.{OnIs, on-is-of, along, add-link-keeps, SoundS, turn-all, move-sound}
+use Rattle.meaning.proofs.Links.{OnIs, on-is-of, along, add-link-keeps, SoundS, turn-all, move-sound}
 
 -- the first system
 abbrev pub at-first : Program → Control → System

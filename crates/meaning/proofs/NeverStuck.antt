@@ -21,9 +21,9 @@ use Rattle.meaning.specs.Promise.{Reached, Never-stuck}
 use Rattle.meaning.specs.Effects.{From, own, other, took, Turned, turn-goes, turn-ends, turn-swaps, turn-swapped-out, turn-stuck}
 use Rattle.meaning.proofs.Splits.{T-of, and-T, no-clash, cond-all, opt-all, bool-all, some-is, none-some, same-is, same-refl, OnSome, on-some-is}
 use Rattle.meaning.proofs.Effects.{Arity, perform-view}
-use Rattle.meaning.proofs.Sound.{OnR, OnIs, along, SoundS, gone-sub, turn-all, move-sound}
-use Rattle.meaning.proofs.Parts.{at-first, begin-all, first-sound}
-use Rattle.meaning.proofs.Local.{OldOr, HasAll, sub-all, settle-all, deliver-all, tick-all, Next, act-next, did-old, old-refl, end-old-sub}
+use Rattle.meaning.proofs.Links.{OnR, OnIs, along, SoundS, gone-sub, turn-all, move-sound}
+use Rattle.meaning.proofs.Alone.{at-first, begin-all, first-sound}
+use Rattle.meaning.proofs.OwnCode.{OldOr, HasAll, sub-all, settle-all, deliver-all, tick-all, Next, act-next, did-old, old-refl, end-old-sub}
 
 -- sound syntax under names
 abbrev mutual
