@@ -7,19 +7,21 @@ use mathlib.Core.Option.{Option, some, none}
 use Prim.Native.Nat.{ℕ, _+_, _≤_}
 use native.Mathlib.Omega.{arith}
 use lib.Dec.{eqb, ltb, leb, leb→le, le→leb, ltb→lt}
-use Rattle.meaning.specs.Basics.{opt, Name}
-use Rattle.meaning.specs.Atoms.{a-old, a-normal}
+use Rattle.meaning.specs.Basics.{opt}
+use Rattle.meaning.specs.Atoms.{a-normal}
 use Rattle.meaning.specs.Syntax.{Program, Clauses}
 use Rattle.meaning.specs.Values.{Value, v-atom, sameV, Binding}
-use Rattle.meaning.specs.System.{cut-link, Scope, Until, for-ever, until, Control, eval, give, enter, fail, wait, Worker, Signal, System, with-signals, find, change, on-worker, set-mail, add-mail, gone, ended, old, end-old, with-version, with-clock}
+use Rattle.meaning.specs.System.{cut-link, Scope, Until, for-ever, until, Control, eval, give, enter, fail, wait, Worker, Signal, System, with-signals, find, change, on-worker, set-mail, add-mail, gone, ended, with-version, with-clock}
 use Rattle.meaning.specs.Turns.{Outcome, goes-on, Chosen, Taken, choose, keep-front, take-first, turn-with, can, timed-out, rebind}
 use Rattle.meaning.specs.Moves.{Move, turn, signal, tick, Result, is, not-allowed, no-meaning, settle, take-signal, deliver, first-time, move}
 use Rattle.meaning.specs.Promise.{Left-alone, Can-stays}
 use Rattle.meaning.specs.Effects.{Effect, nothing, sent, spawned, linked-gone, exited, linked, trapped, showed, named, took, Turned, turn-goes, turn-ends, turn-swaps, turn-swapped-out, turn-stuck}
 use Rattle.meaning.proofs.Splits.{T-of, is-true, no-clash, cond-all, opt-all, bool-all, none-some, eqb-is, eqb-isnt}
-use Rattle.meaning.proofs.Finding.{find-gone-same, Keeps, find-gone-other}
-use Rattle.meaning.proofs.Links.{OnIs, on-is-of, SoundS, turn-all}
-use Rattle.meaning.proofs.Alone.{AloneAt, turned-alone, change-found, reached-sound}
+use Rattle.meaning.proofs.Finding.{find-gone-same, Keeps, find-gone-other, found-after-change}
+use Rattle.meaning.proofs.Links.{SoundS, reached-sound}
+use Rattle.meaning.proofs.Alone.{AloneAt, turned-alone}
+use Rattle.meaning.proofs.Results.{OnIs, on-is-of, turn-all}
+use Rattle.meaning.proofs.Swapping.{end-old-clock}
 
 abbrev pub ripe : Until → ℕ → Bool
 ripe for-ever t = false
@@ -86,9 +88,6 @@ did-clock g s w me t (trapped b) = refl
 did-clock g s w me t (showed l) = refl
 did-clock g s w me t (named x) = refl
 did-clock g s w me t (took ms) = refl
-pub end-old-clock : (us : List Worker) (x : Name) (n : ℕ) (s : System) → end-old us x n s .clock ≡ s .clock
-end-old-clock [] x n s = refl
-end-old-clock (u ∷ us) x n s = end-old-clock us x n (cond (old x n u) (ended s u (v-atom a-old)) s) ∙ cond-all (λ (t : System). t .clock ≡ s .clock) (old x n u) (ended s u (v-atom a-old)) s (λ i. refl) (λ i. refl)
 pub turned-clock : (g : Program) (s : System) (n : ℕ) (me : Worker) (o : Outcome) → Turned g s me o → OnIs (λ t. t .clock ≡ s .clock) (settle n o)
 turned-clock g s n me o (turn-goes c k w {t} d) = did-clock g s w (me .pid) t d
 turned-clock g s n me o (turn-ends r why) = refl
@@ -101,12 +100,12 @@ still g s q w h (is t) (inr a) e = inl (a .1)
 still g s q w h not-allowed a e = tt
 still g s q w h no-meaning a e = tt
 kept-can : (g : Program) (s t : System) (q n : ℕ) (f : Worker → Worker) (w : Worker) → Keeps f → ((x : Worker) → Left-alone x (f x)) → t .workers ≡ change (s .workers) n f → s .clock ≤ t .clock → find (s .workers) q ≡ some w → can g s w ≡ true → StillAt g q t
-kept-can g s t q n f w kp al tw tc e h = let r = change-found (s .workers) n f kp q w e in inr (r .0, ap (λ (ws : List Worker). find ws q) tw ∙ r .1, alone-can g s t w (r .0) tc (elim (r .2) [ inl i ↦ subst (Left-alone w) (sym i) (refl, refl, refl, ([], sym (append-nil (w .mail)), omega arith)) | inr i ↦ subst (Left-alone w) (sym i) (al w) ]) h)
+kept-can g s t q n f w kp al tw tc e h = let r = found-after-change (s .workers) n f kp q w e in inr (r .0, ap (λ (ws : List Worker). find ws q) tw ∙ r .1, alone-can g s t w (r .0) tc (elim (r .2) [ inl i ↦ subst (Left-alone w) (sym (i .1)) (refl, refl, refl, ([], sym (append-nil (w .mail)), omega arith)) | inr i ↦ subst (Left-alone w) (sym (i .1)) (al w) ]) h)
 soft-still : (g : Program) (s : System) (x : Signal) (v : Worker) (q : ℕ) (w : Worker) → SoundS s → find (s .workers) q ≡ some w → can g s w ≡ true → StillAt g q (take-signal s x v)
 soft-still g s x v q w sd e h = cond-all (StillAt g q) (v .traps) _ _
   (λ i. kept-can g s (on-worker s (v .pid) (add-mail _)) q (v .pid) (add-mail _) w (λ y. refl) (λ y. (refl, refl, refl, (_ ∷ [], refl, omega arith))) refl (omega arith) e h)
   (λ i. cond-all (StillAt g q) (sameV (x .reason) (v-atom a-normal)) _ (ended s v (x .reason))
-    (λ j. let r = change-found (s .workers) (v .pid) (cut-link (x .from)) (λ y. refl) q w e in
+    (λ j. let r = found-after-change (s .workers) (v .pid) (cut-link (x .from)) (λ y. refl) q w e in
       let mid = on-worker s (v .pid) (cut-link (x .from)) in
       elim (kept-can g s mid q (v .pid) (cut-link (x .from)) w (λ y. refl) (λ y. (refl, refl, refl, ([], sym (append-nil (y .mail)), omega arith))) refl (omega arith) e h) [ inl a ↦ absurd (none-some (sym a ∙ r .1)) | inr a ↦ kept-can g mid (on-worker mid (x .from) (cut-link (v .pid))) q (x .from) (cut-link (v .pid)) (a .0) (λ y. refl) (λ y. (refl, refl, refl, ([], sym (append-nil (y .mail)), omega arith))) refl (omega arith) (a .1) (a .2) ])
     (λ j. bool-all (λ b. eqb q (v .pid) ≡ b → StillAt g q (ended s v (x .reason))) (eqb q (v .pid))

@@ -1,87 +1,33 @@
 -- What whoever runs the workers has to show at each move.
 use mathlib.Core.Path.{_≡_, refl, sym, ap, subst, _∙_}
 use mathlib.Core.Logic.{_⊎_, inl, inr}
-use mathlib.Core.Bool.{true, cond}
 use mathlib.Core.List.{List, [], _∷_, _++_, append-assoc}
 use mathlib.Core.Option.{Option, some, none}
-use Prim.Native.Nat.{ℕ, zero, suc, _<_, _≤_, min}
+use Prim.Native.Nat.{ℕ, zero, suc, _<_, _≤_}
 use native.Mathlib.Omega.{arith}
 use native.Mathlib.Decide.{decLe}
-use lib.Dec.{ltb}
-use borrow.Author.Tests.{lt-ltb, le-leb}
-use Rattle.meaning.specs.Basics.{opt}
 use Rattle.meaning.specs.Syntax.{Program}
-use Rattle.meaning.specs.Values.{Value}
-use Rattle.meaning.specs.System.{for-ever, until, Control, eval, give, enter, fail, wait, Worker, System, find, with-clock, Apart}
-use Rattle.meaning.specs.Turns.{take-first, Taken}
-use Rattle.meaning.specs.Moves.{turn, signal, tick, is, not-allowed, move, time-of, sooner, first-time}
+use Rattle.meaning.specs.System.{Worker, System, find, with-clock}
+use Rattle.meaning.specs.Moves.{turn, signal, tick, is, move, time-of, first-time}
 use Rattle.meaning.specs.Fair.{Could, Waits-later}
-use Rattle.meaning.specs.Scheduler.{alive, Woken, Numbered, Before, first, next, Due, Good, Entry, round, worker, serve, flush, slice, batch, here, Mem, Distinct, Kept, end, keep, leave, Queues, Step, by-turn, by-signal, by-tick, by-round, by-pop, same-slice, slice-over, Idle}
-use Rattle.meaning.proofs.Queue.{At-none, Mem-cases, behind}
-use Rattle.meaning.proofs.Finding.{find-here, find-there}
-use Rattle.meaning.proofs.Ready.{can-is, ready, due}
-use Rattle.meaning.proofs.Past.{More, More-same, Now, Past, after-turn, after-signal, some-or-none}
-use Rattle.meaning.proofs.Splits.{either}
-use Rattle.meaning.proofs.Exact.{still, keeps, not-both, Mem-left, Mem-right, Mem-split, alive-kept, alive-not, kept-round, go-on, over, back, ticked, now-all, Distinct-append}
-
-Before-cases : {x y z : Entry} {es : List Entry} → Before x y (z ∷ es) → ((x ≡ z) × Mem y es) ⊎ Before x y es
-Before-cases (first m) = inl (refl, m)
-Before-cases (next b) = inr b
-Before-none : {x y : Entry} → Before x y [] → ⊥
-Before-none a = elim a as (λ es b. is-none es → ⊥) [ first m ↦ λ e. e | next b ↦ λ e. e ] tt
-  where
-    is-none : List Entry → Type 0
-    is-none [] = Unit {0}
-    is-none (x ∷ es) = ⊥
-Before-mem : {x y : Entry} {es : List Entry} → Before x y es → Mem y es
-Before-mem {x} (first m) = behind x m
-Before-mem (next {z = z} b) = behind z (Before-mem b)
-Before-append : {x y : Entry} {es : List Entry} (fs : List Entry) → Before x y es → Before x y (es ++ fs)
-Before-append fs (first m) = first (Mem-left fs m)
-Before-append fs (next b) = next (Before-append fs b)
-Before-last : (x y : Entry) (es : List Entry) → Mem x es → Before x y (es ++ (y ∷ []))
-Before-last x y [] m = absurd (At-none (m .1))
-Before-last x y (z ∷ es) m = go (Mem-cases m) (Before-last x y es)
-  where
-    go : (x ≡ z) ⊎ Mem x es → (Mem x es → Before x y (es ++ (y ∷ []))) → Before x y (z ∷ (es ++ (y ∷ [])))
-    go (inl e) ih = subst (λ w. Before x y (w ∷ (es ++ (y ∷ [])))) e (first (Mem-right es (zero, here)))
-    go (inr a) ih = next (ih a)
-Before-kept : {s : System} {es fs : List Entry} (q : ℕ) → Kept s es fs → (find (s .workers) q ≡ none → ⊥) → Before (worker q) round es → Before (worker q) round fs
-Before-kept q end h b = absurd (Before-none b)
-Before-kept q (keep {x = x} {es = es} {fs = fs} k) h b = go (Before-cases b) (Before-kept q k h)
-  where
-    go : ((worker q ≡ x) × Mem round es) ⊎ Before (worker q) round es → (Before (worker q) round es → Before (worker q) round fs) → Before (worker q) round (x ∷ fs)
-    go (inl (e, m)) ih = subst (λ w. Before (worker q) round (w ∷ fs)) e (first (kept-round k m))
-    go (inr a) ih = next (ih a)
-Before-kept {s} q (leave {p = p} {es = es} {fs = fs} d k) h b = go (Before-cases b) (Before-kept q k h)
-  where
-    go : ((worker q ≡ worker p) × Mem round es) ⊎ Before (worker q) round es → (Before (worker q) round es → Before (worker q) round fs) → Before (worker q) round fs
-    go (inl (e, m)) ih = let y : q ≡ p = cc in absurd (h (ap (find (s .workers)) y ∙ d))
-    go (inr a) ih = ih a
-
-ready-due : (t u : ℕ) (c : Control) (ms : List Value) → time-of c ≡ some u → u ≤ t → ready t c ms ≡ true
-ready-due t u (eval e w) ms h l = refl
-ready-due t u (give v) ms h l = refl
-ready-due t u (enter b w) ms h l = refl
-ready-due t u (fail v) ms h l = refl
-ready-due t u (wait cs for-ever w) ms h l = let z : _≡_ {A = ℕ} 0 1 = cc in absurd (omega arith)
-ready-due t u (wait cs (until v b) w) ms h l = go (take-first cs (w .vars) ms)
-  where
-    go : (o : Option Taken) → opt o (due t (until v b)) (λ x. true) ≡ true
-    go none = let e : v ≡ u = cc in le-leb v t (omega arith)
-    go (some x) = refl
-pub due-can : (g : Program) (s : System) (q : ℕ) → Due s q → Could g s q
-due-can g s q (w, u, f, e, l) = (w, f, can-is g s w ∙ ready-due (s .clock) u (w .control) (w .mail) e l)
+use Rattle.meaning.specs.Scheduler.{alive, Woken, Numbered, Before, first, next, Due, Good, Entry, round, worker, serve, flush, slice, batch, here, Mem, Distinct, Queues, Step, by-turn, by-signal, by-tick, by-round, by-pop, same-slice, slice-over, Idle}
+use Rattle.meaning.proofs.Queue.{At-none, Mem-cases, behind, could-not-gone, Mem-left, Mem-right, Mem-split, Distinct-append, Before-last, Before-kept, keep-all, Before-cases, Before-append, Before-mem, kept-mem}
+use Rattle.meaning.proofs.Ready.{due-can}
+use Rattle.meaning.proofs.Past.{More, More-same, Now, Past, after-turn, after-signal}
+use Rattle.meaning.proofs.Splits.{either, some-or-none, impossible}
+use Rattle.meaning.proofs.Exact.{still, keeps, go-on, over, back, ticked, now-all}
+use Rattle.meaning.proofs.Times.{first-none, first-is, tick-is}
+use Rattle.meaning.proofs.Alive.{alive-kept, alive-not}
 
 -- whose time has come after a turn of n or a signal, its time had come before
 due-before : (n : ℕ) (s t : System) → Past n s t → (q : ℕ) → (q ≡ n → ⊥) → Due t q → Due s q
 due-before n s t p q d (x, u, f, e, l) = go (some-or-none (find (s .workers) q))
   where
     go : (find (s .workers) q ≡ none) ⊎ ((w : Worker) × (find (s .workers) q ≡ some w)) → Due s q
-    go (inl h) = let z : _≡_ {A = ℕ} 0 1 = cc (p .fresh q x d h f) in absurd (omega arith)
+    go (inl h) = impossible (cc (p .fresh q x d h f))
     go (inr (w, h)) = let m : More w x = subst (Now w) f (p .others q w d h) in let c = p .clock in (w, u, h, ap time-of (sym (m .0)) ∙ e, omega arith)
 found-not : (s : System) (q : ℕ) → Due s q → find (s .workers) q ≡ none → ⊥
-found-not s q (w, u, f, e, l) h = let z : _≡_ {A = ℕ} 0 1 = cc in omega arith
+found-not s q (w, u, f, e, l) h = impossible (cc)
 
 module _ (g : Program) (s t : System) (n k : ℕ) (es new : List Entry) (i : Good g s (serve n (suc k)) es) (mv : move g s (turn n) ≡ is t) (w : Woken g n s t new) where
   private-past : Past n s t
@@ -93,7 +39,7 @@ module _ (g : Program) (s t : System) (n k : ℕ) (es new : List Entry) (i : Goo
       go (inl (e, m)) = let z : q ≡ n = cc in absurd (d z)
       go (inr b) = Before-kept q (alive-kept t es) (found-not t q y) b
   rounds′ : Mem round (alive t es ++ new)
-  rounds′ = Mem-left new (kept-round (alive-kept t es) (i .exact .rounds))
+  rounds′ = Mem-left new (kept-mem round tt (alive-kept t es) (i .exact .rounds))
   keeps′ : (q : ℕ) → (q ≡ n → ⊥) → Could g s q → Could g t q ⊎ (find (t .workers) q ≡ none)
   keeps′ q d c = keeps g s t n q private-past d c
   able′ : (q : ℕ) → Mem (worker q) es → Could g s q
@@ -114,66 +60,36 @@ module _ (g : Program) (s t : System) (n k : ℕ) (es new : List Entry) (i : Goo
 
 -- a number that nobody has
 nobody : (g : Program) (s : System) → Numbered s → (n : ℕ) → s .next ≤ n → Could g s n → ⊥
-nobody g s i n l c = not-both g s n (i .1 n l) c
+nobody g s i n l c = could-not-gone g s n (i .1 n l) c
 module _ (g : Program) (s t : System) (k : ℕ) (es new : List Entry) (i : Good g s (flush (suc k)) es) (mv : move g s signal ≡ is t) (w : Woken g (t .next) s t new) where
   past-s : Past (t .next) s t
   past-s = after-signal g s t (t .next) (i .numbered) mv
   not-next : (q : ℕ) → Could g s q → q ≡ t .next → ⊥
   not-next q c e = let h = past-s .next in nobody g s (i .numbered) q (omega arith) c
   pub signalled : Step g s (flush (suc k)) es (signal ∷ []) t (flush k) (alive t es ++ new) × Good g t (flush k) (alive t es ++ new)
-  signalled = (by-signal new mv (alive-kept t es), record { numbered = past-s .numbered; exact = over g s t (t .next) (λ q d c. keeps g s t (t .next) q past-s d c) es (alive t es) new (alive-kept t es) (alive-not t es) w ((λ m. not-next (t .next) (i .exact .able (t .next) m) refl), i .exact .once) (i .exact .able) (λ q c. behind (worker (t .next)) (i .exact .all q c)) k (let h = i .exact .small in omega arith) (nobody g t (past-s .numbered) (t .next) (omega arith)) (Mem-left new (kept-round (alive-kept t es) (i .exact .rounds))); timely = λ q y. Before-append new (Before-kept q (alive-kept t es) (found-not t q y) (i .timely q (due-before (t .next) s t past-s q (λ e. nobody g t (past-s .numbered) q (omega arith) (due-can g t q y)) y))) })
+  signalled = (by-signal new mv (alive-kept t es), record { numbered = past-s .numbered; exact = over g s t (t .next) (λ q d c. keeps g s t (t .next) q past-s d c) es (alive t es) new (alive-kept t es) (alive-not t es) w ((λ m. not-next (t .next) (i .exact .able (t .next) m) refl), i .exact .once) (i .exact .able) (λ q c. behind (worker (t .next)) (i .exact .all q c)) k (let h = i .exact .small in omega arith) (nobody g t (past-s .numbered) (t .next) (omega arith)) (Mem-left new (kept-mem round tt (alive-kept t es) (i .exact .rounds))); timely = λ q y. Before-append new (Before-kept q (alive-kept t es) (found-not t q y) (i .timely q (due-before (t .next) s t past-s q (λ e. nobody g t (past-s .numbered) q (omega arith) (due-can g t q y)) y))) })
 
 -- the end of a round: nobody's time has come
 no-due : (g : Program) (s : System) (k : ℕ) (es : List Entry) → Good g s (flush k) (round ∷ es) → (q : ℕ) → Due s q → ⊥
 no-due g s k es i q y = go (Before-cases (i .timely q y))
   where
     go : ((worker q ≡ round) × Mem round es) ⊎ Before (worker q) round es → ⊥
-    go (inl (e, m)) = let z : _≡_ {A = ℕ} 0 1 = cc in omega arith
+    go (inl (e, m)) = impossible (cc)
     go (inr b) = i .exact .once .0 (Before-mem b)
-abbrev Late : ℕ → List Worker → Type 0
-Late c ws = (q : ℕ) (w : Worker) (u : ℕ) → find ws q ≡ some w → time-of (w .control) ≡ some u → c < u
-first-late : (c : ℕ) (ws : List Worker) (u : ℕ) → Apart ws → Late c ws → first-time ws ≡ some u → c < u
-first-late c [] u a l e = let z : _≡_ {A = ℕ} 0 1 = cc in absurd (omega arith)
-first-late c (w ∷ ws) u a l e = go (time-of (w .control)) (first-time ws) (λ v. l (w .pid) w v (find-here w ws (w .pid) refl)) (λ v. first-late c ws v (a .1) tail) e
-  where
-    tail : Late c ws
-    tail q x v f h = side (either (w .pid) q)
-      where
-        side : (w .pid ≡ q) ⊎ (w .pid ≡ q → ⊥) → c < v
-        side (inl d) = let z : _≡_ {A = ℕ} 0 1 = cc (sym (ap (find ws) d) ∙ a .0) in absurd (omega arith)
-        side (inr d) = l q x v (find-there w ws q d ∙ f) h
-    go : (o p : Option ℕ) → ((v : ℕ) → o ≡ some v → c < v) → ((v : ℕ) → p ≡ some v → c < v) → sooner o p ≡ some u → c < u
-    go none p a b h = b u h
-    go (some x) none a b h = a u h
-    go (some x) (some y) a b h = let d : min x y ≡ u = cc in let f = a x refl in let k = b y refl in omega arith
-pub first-none : (ws : List Worker) (q : ℕ) (w : Worker) (u : ℕ) → first-time ws ≡ none → find ws q ≡ some w → time-of (w .control) ≡ some u → ⊥
-first-none [] q w u e f h = let z : _≡_ {A = ℕ} 0 1 = cc in omega arith
-first-none (x ∷ ws) q w u e f h = go (time-of (x .control)) refl (first-time ws) refl e (first-none ws q w u)
-  where
-    go : (o : Option ℕ) → time-of (x .control) ≡ o → (p : Option ℕ) → first-time ws ≡ p → sooner o p ≡ none → (first-time ws ≡ none → find ws q ≡ some w → time-of (w .control) ≡ some u → ⊥) → ⊥
-    go none a p b d ih = side (either (x .pid) q)
-      where
-        side : (x .pid ≡ q) ⊎ (x .pid ≡ q → ⊥) → ⊥
-        side (inl y) = let v : x ≡ w = cc (find-here x ws q y) in let z : _≡_ {A = ℕ} 0 1 = cc in omega arith
-        side (inr y) = ih (b ∙ d) (sym (find-there x ws q y) ∙ f) h
-    go (some v) a none b d ih = let z : _≡_ {A = ℕ} 0 1 = cc in omega arith
-    go (some v) a (some y) b d ih = let z : _≡_ {A = ℕ} 0 1 = cc in omega arith
 pub at-round : (g : Program) (s : System) (k : ℕ) (es : List Entry) → Good g s (flush k) (round ∷ es) → ((first-time (s .workers) ≡ none) × (Waits-later s → ⊥)) ⊎ ((u : ℕ) × (s .clock < u) × (first-time (s .workers) ≡ some u) × (move g s tick ≡ is (with-clock s u)))
 at-round g s k es i = go (first-time (s .workers)) refl
   where
-    late : Late (s .clock) (s .workers)
+    late : (q : ℕ) (w : Worker) (u : ℕ) → find (s .workers) q ≡ some w → time-of (w .control) ≡ some u → s .clock < u
     late q w u f e = side (decLe u (s .clock))
       where
         side : Dec (u ≤ s .clock) → s .clock < u
         side (yes l) = absurd (no-due g s k es i q (w, u, f, e, l))
         side (no l) = omega arith
+    first-late : (u : ℕ) → first-time (s .workers) ≡ some u → s .clock < u
+    first-late u e = let r = first-is (s .workers) u (i .numbered .0) e in late (r .0) (r .1) u (r .2) (r .3)
     go : (o : Option ℕ) → first-time (s .workers) ≡ o → ((first-time (s .workers) ≡ none) × (Waits-later s → ⊥)) ⊎ ((u : ℕ) × (s .clock < u) × (first-time (s .workers) ≡ some u) × (move g s tick ≡ is (with-clock s u)))
     go none e = inl (e, λ y. first-none (s .workers) (y .0) (y .1) (y .2) e (y .3) (y .4))
-    go (some u) e = let l = first-late (s .clock) (s .workers) u (i .numbered .0) late e in inr (u, l, e, ap (λ o. opt o not-allowed (λ v. cond (ltb (s .clock) v) (is (with-clock s v)) not-allowed)) e ∙ ap (λ b. cond b (is (with-clock s u)) not-allowed) (lt-ltb (s .clock) u l))
-
-keep-all : (s : System) (es : List Entry) → Kept s es es
-keep-all s [] = end
-keep-all s (x ∷ es) = keep (keep-all s es)
+    go (some u) e = let l = first-late u e in inr (u, l, e, tick-is g s u e l)
 -- time goes on: all that can go on now stand before the end of the next round
 module _ (g : Program) (s : System) (k u : ℕ) (es new : List Entry) (i : Good g s (flush k) (round ∷ es)) (l : s .clock < u) (w : Woken g (s .next) s (with-clock s u) new) where
   keeps-t : (q : ℕ) → (q ≡ s .next → ⊥) → Could g s q → Could g (with-clock s u) q ⊎ (find (s .workers) q ≡ none)
@@ -181,7 +97,7 @@ module _ (g : Program) (s : System) (k u : ℕ) (es new : List Entry) (i : Good 
   able-t : (q : ℕ) → Mem (worker q) es → Could g s q
   able-t q m = i .exact .able q (behind round m)
   there-t : (q : ℕ) → Mem (worker q) es → find (s .workers) q ≡ none → ⊥
-  there-t q m e = not-both g s q e (able-t q m)
+  there-t q m e = could-not-gone g s q e (able-t q m)
   none-t : Could g s (s .next) → ⊥
   none-t = nobody g s (i .numbered) (s .next) (omega arith)
   none-later : Could g (with-clock s u) (s .next) → ⊥
@@ -192,14 +108,14 @@ module _ (g : Program) (s : System) (k u : ℕ) (es new : List Entry) (i : Good 
   all-t q c = behind (worker (s .next)) (go (Mem-cases (i .exact .all q c)))
     where
       go : (worker q ≡ round) ⊎ Mem (worker q) es → Mem (worker q) es
-      go (inl e) = let z : _≡_ {A = ℕ} 0 1 = cc in absurd (omega arith)
+      go (inl e) = impossible (cc)
       go (inr m) = m
   no-round : Mem round (es ++ new) → ⊥
   no-round m = go (Mem-split es m)
     where
       go : Mem round es ⊎ Mem round new → ⊥
       go (inl a) = i .exact .once .0 a
-      go (inr b) = let y = w .each round b in let e = y .1 in let z : _≡_ {A = ℕ} 0 1 = cc in omega arith
+      go (inr b) = let y = w .each round b in let e = y .1 in impossible (cc)
   exact-t : Queues g (with-clock s u) (flush batch) (es ++ (new ++ (round ∷ [])))
   exact-t = ticked g s (with-clock s u) (s .next) keeps-t es es new (keep-all (with-clock s u) es) there-t w once-t able-t all-t batch (omega arith) none-later no-round
   timely-t : (q : ℕ) → Due (with-clock s u) q → Before (worker q) round (es ++ (new ++ (round ∷ [])))
@@ -212,13 +128,13 @@ module _ (g : Program) (s : System) (k : ℕ) (es : List Entry) (i : Good g s (f
   mem-r q c = go (Mem-cases (i .exact .all q c))
     where
       go : (worker q ≡ round) ⊎ Mem (worker q) es → Mem (worker q) es
-      go (inl e) = let z : _≡_ {A = ℕ} 0 1 = cc in absurd (omega arith)
+      go (inl e) = impossible (cc)
       go (inr m) = m
   able-r : (q : ℕ) → Mem (worker q) (es ++ (round ∷ [])) → Could g s q
   able-r q m = go (Mem-split es m)
     where
       one : (worker q ≡ round) ⊎ Mem (worker q) [] → Could g s q
-      one (inl e) = let z : _≡_ {A = ℕ} 0 1 = cc in absurd (omega arith)
+      one (inl e) = impossible (cc)
       one (inr m) = absurd (At-none (m .1))
       go : Mem (worker q) es ⊎ Mem (worker q) (round ∷ []) → Could g s q
       go (inl a) = i .exact .able q (behind round a)
@@ -235,21 +151,5 @@ pub popped : (g : Program) (s : System) (k p n : ℕ) (es : List Entry) → Good
 popped g s k p n es i idle l = (by-pop n idle l, record { numbered = i .numbered; exact = record { once = i .exact .once; able = i .exact .able; all = i .exact .all; rounds = go (Mem-cases (i .exact .rounds)); small = l }; timely = i .timely })
   where
     go : (round ≡ worker p) ⊎ Mem round es → Mem round es
-    go (inl e) = let z : _≡_ {A = ℕ} 0 1 = cc in absurd (omega arith)
+    go (inl e) = impossible (cc)
     go (inr m) = m
-
--- who became able: nobody else, or one
-pub woken-none : (g : Program) (n : ℕ) (s t : System) → ((q : ℕ) → (q ≡ n → ⊥) → Could g t q → Could g s q) → Woken g n s t []
-woken-none g n s t h = record { once = tt; each = λ x m. absurd (At-none (m .1)); all = λ q d c. inl (h q d c) }
-pub woken-one : (g : Program) (n : ℕ) (s t : System) (p : ℕ) → (p ≡ n → ⊥) → Could g t p → (Could g s p → ⊥) → ((q : ℕ) → (q ≡ n → ⊥) → (q ≡ p → ⊥) → Could g t q → Could g s q) → Woken g n s t (worker p ∷ [])
-woken-one g n s t p d c f h = record { once = ((λ m. At-none (m .1)), tt); each = λ x m. one x (Mem-cases m); all = λ q e b. two q e b (either q p) }
-  where
-    one : (x : Entry) → (x ≡ worker p) ⊎ Mem x [] → (q : ℕ) × (x ≡ worker q) × (q ≡ n → ⊥) × Could g t q × (Could g s q → ⊥)
-    one x (inl e) = (p, e, d, c, f)
-    one x (inr m) = absurd (At-none (m .1))
-    two : (q : ℕ) → (q ≡ n → ⊥) → Could g t q → (q ≡ p) ⊎ (q ≡ p → ⊥) → Could g s q ⊎ Mem (worker q) (worker p ∷ [])
-    two q e b (inl y) = inr (subst (λ z. Mem (worker z) (worker p ∷ [])) (sym y) (zero, here))
-    two q e b (inr y) = inl (h q e y b)
--- whoever is found as before can as before
-pub same-could : (g : Program) (s t : System) (q : ℕ) → t .clock ≡ s .clock → find (t .workers) q ≡ find (s .workers) q → Could g t q → Could g s q
-same-could g s t q e h (w, f, c) = (w, sym h ∙ f, can-is g s w ∙ ap (λ z. ready z (w .control) (w .mail)) (sym e) ∙ sym (can-is g t w) ∙ c)

@@ -14,24 +14,16 @@ use Rattle.meaning.specs.Syntax.{Program, Function}
 use Rattle.meaning.specs.Values.{Value}
 use Rattle.meaning.specs.System.{for-ever, until, Control, eval, give, enter, fail, wait, Worker, System, find, on-worker, set-control, set-mail, functions-of, function-of}
 use Rattle.meaning.specs.Turns.{Outcome, goes-on, leaves, stuck, turn-of, turn-with, timed-out, rebind, take-first, Taken, enter-function, bind-params}
-use Rattle.meaning.specs.Moves.{settle, Move, turn, Result, is, not-allowed, no-meaning, move, on-is, moves, time-of, begin, first-name, first-versions}
+use Rattle.meaning.specs.Moves.{settle, Move, turn, is, not-allowed, move, on-is, moves, time-of, begin, first-name, first-versions}
 use Rattle.meaning.specs.Fair.{Could, Fair}
 use Rattle.meaning.specs.Scheduler.{Good, Due, first, next, So-far, Entry, round, worker, Mode, flush, here, Mem, Step, by-turn, by-signal, by-tick, by-round, by-pop, Steps, start, and-step}
 use Rattle.meaning.proofs.Queue.{At-none, Mem-cases, behind}
-use Rattle.meaning.proofs.Finding.{find-here, find-there, find-changed, find-pid}
+use Rattle.meaning.proofs.Finding.{find-here, find-there, find-changed, find-pid, only}
 use Rattle.meaning.proofs.Fairness.{fair-always}
 use Rattle.meaning.proofs.Ready.{can-is, ready}
-use Rattle.meaning.proofs.Splits.{either}
+use Rattle.meaning.proofs.Results.{moves-append}
+use Rattle.meaning.proofs.Splits.{impossible}
 
--- the moves of steps
-pub moves-append : (g : Program) (s : System) (l r : List Move) → moves g s (l ++ r) ≡ on-is (moves g s l) (λ t. moves g t r)
-moves-append g s [] r = refl
-moves-append g s (x ∷ l) r = go (move g s x) (λ t. moves-append g t l r)
-  where
-    go : (o : Result) → ((t : System) → moves g t (l ++ r) ≡ on-is (moves g t l) (λ u. moves g u r)) → on-is o (λ t. moves g t (l ++ r)) ≡ on-is (on-is o (λ t. moves g t l)) (λ t. moves g t r)
-    go (is t) ih = ih t
-    go not-allowed ih = refl
-    go no-meaning ih = refl
 step-moves : {g : Program} {s s′ : System} {m m′ : Mode} {es es′ : List Entry} {x : List Move} → Step g s m es x s′ m′ es′ → moves g s x ≡ is s′
 step-moves (by-turn new e k a) = ap (λ o. on-is o (λ t. is t)) e
 step-moves (by-signal new e k) = ap (λ o. on-is o (λ t. is t)) e
@@ -63,33 +55,27 @@ abbrev first-worker : Control → Worker
 first-worker c = record { pid = 0; control = c; frames = []; mail = []; links = []; traps = false }
 abbrev first-sys : Program → Control → System
 first-sys g c = record { workers = first-worker c ∷ []; next = 1; clock = 0; loaded = first-versions g []; names = []; signals = []; shown = [] }
-only : (w x : Worker) (q : ℕ) → find (w ∷ []) q ≡ some x → (w .pid ≡ q) × (w ≡ x)
-only w x q h = go (either (w .pid) q)
-  where
-    go : (w .pid ≡ q) ⊎ (w .pid ≡ q → ⊥) → (w .pid ≡ q) × (w ≡ x)
-    go (inl e) = (e, cc (find-here w [] q e))
-    go (inr d) = let z : _≡_ {A = ℕ} 0 1 = cc (find-there w [] q d) in absurd (omega arith)
 first-good : (g : Program) (c : Control) → (time-of c ≡ none) × ((t : ℕ) (ms : List Value) → ready t c ms ≡ true) → Good g (first-sys g c) (flush 0) (worker 0 ∷ round ∷ [])
 first-good g c (young, ready-c) = record { numbered = ((refl, tt), λ q l. find-there (first-worker c) [] q (λ e. low q l e)); exact = record { once = ((λ m. one (Mem-cases m)), ((λ m. At-none (m .1)), tt)); able = λ p m. two p (Mem-cases m); all = λ p d. subst (λ z. Mem (worker z) (worker 0 ∷ round ∷ [])) (only (first-worker c) (d .0) p (d .1) .0) (zero, here); rounds = behind (worker 0) (zero, here); small = omega arith }; timely = λ q d. absurd (never q d) }
   where
     low : (q : ℕ) → 1 ≤ q → 0 ≡ q → ⊥
     low q l e = omega arith
     one : (worker 0 ≡ round) ⊎ Mem (worker 0) [] → ⊥
-    one (inl e) = let z : _≡_ {A = ℕ} 0 1 = cc in omega arith
+    one (inl e) = impossible (cc)
     one (inr m) = At-none (m .1)
     three : (p : ℕ) → (worker p ≡ round) ⊎ Mem (worker p) [] → ⊥
-    three p (inl e) = let z : _≡_ {A = ℕ} 0 1 = cc in omega arith
+    three p (inl e) = impossible (cc)
     three p (inr m) = At-none (m .1)
     two : (p : ℕ) → (worker p ≡ worker 0) ⊎ Mem (worker p) (round ∷ []) → Could g (first-sys g c) p
     two p (inl e) = let y : 0 ≡ p = cc in (first-worker c, find-here (first-worker c) [] p y, can-is g (first-sys g c) (first-worker c) ∙ ready-c 0 [])
     two p (inr m) = absurd (three p (Mem-cases m))
     never : (q : ℕ) → Due (first-sys g c) q → ⊥
-    never q (x, u, f, e, l) = let y = only (first-worker c) x q f .1 in let z : _≡_ {A = ℕ} 0 1 = cc in omega arith
+    never q (x, u, f, e, l) = let y = only (first-worker c) x q f .1 in impossible (cc)
 pub so-far-none : (g : Program) (b : System) → begin g ≡ some b → So-far g b [] b (flush 0) (worker 0 ∷ round ∷ [])
 so-far-none g b h = go (enter-function g (first-name g) 1 a-main []) (begun-code g (first-name g) 1 a-main []) h
   where
     go : (o : Option Control) → Begun o → on-some o (λ c. some (first-sys g c)) ≡ some b → So-far g b [] b (flush 0) (worker 0 ∷ round ∷ [])
-    go none y e = let z : _≡_ {A = ℕ} 0 1 = cc in absurd (omega arith)
+    go none y e = impossible (cc)
     go (some c) y e = let d : first-sys g c ≡ b = cc in let i = subst (λ z. Good g z (flush 0) (worker 0 ∷ round ∷ [])) d (first-good g c y) in record { steps = start; first = i; good = i }
 
 -- whose time has come is past it with its next turn: so one turn more ends a slice
@@ -99,11 +85,11 @@ Fine n (some (goes-on c k s)) = (time-of c ≡ none) × ((w : Worker) × (find (
 Fine n (some (leaves s)) = ⊥
 Fine n (some stuck) = ⊥
 fine-turn : (g : Program) (s : System) (w : Worker) (c : Control) (u : ℕ) → find (s .workers) (w .pid) ≡ some w → time-of c ≡ some u → Fine (w .pid) (turn-with g s w c)
-fine-turn g s w (eval e z) u f h = let y : _≡_ {A = ℕ} 0 1 = cc in absurd (omega arith)
-fine-turn g s w (give v) u f h = let y : _≡_ {A = ℕ} 0 1 = cc in absurd (omega arith)
-fine-turn g s w (enter b z) u f h = let y : _≡_ {A = ℕ} 0 1 = cc in absurd (omega arith)
-fine-turn g s w (fail v) u f h = let y : _≡_ {A = ℕ} 0 1 = cc in absurd (omega arith)
-fine-turn g s w (wait cs for-ever z) u f h = let y : _≡_ {A = ℕ} 0 1 = cc in absurd (omega arith)
+fine-turn g s w (eval e z) u f h = impossible (cc)
+fine-turn g s w (give v) u f h = impossible (cc)
+fine-turn g s w (enter b z) u f h = impossible (cc)
+fine-turn g s w (fail v) u f h = impossible (cc)
+fine-turn g s w (wait cs for-ever z) u f h = impossible (cc)
 fine-turn g s w (wait cs (until v b) z) u f h = go (take-first cs (z .vars) (w .mail))
   where
     time : (x : Bool) → Fine (w .pid) (cond x (some (goes-on (enter b z) (w .frames) s)) none)
@@ -118,12 +104,12 @@ due-turn g s t n (w, u, f, e, l) h (x, v, f′, e′, l′) = inner (turn-of g s
     pid : w .pid ≡ n
     pid = find-pid (s .workers) n w f
     inner : (o : Option Outcome) → Fine n o → opt o not-allowed (settle n) ≡ is t → ⊥
-    inner none y d = let z : _≡_ {A = ℕ} 0 1 = cc in omega arith
+    inner none y d = impossible (cc)
     inner (some (goes-on c k s₁)) (young, (w₁, f₁)) d =
       let a : on-worker s₁ n (set-control c k) ≡ t = cc in
       let b : find (t .workers) n ≡ some (set-control c k w₁) = sym (ap (λ z. find (z .workers) n) a) ∙ find-changed (s₁ .workers) n (set-control c k) w₁ (λ y. refl) f₁ in
       let q : set-control c k w₁ ≡ x = cc in
       let r : time-of c ≡ some v = ap (λ z. time-of (z .control)) q ∙ e′ in
-      let z : _≡_ {A = ℕ} 0 1 = cc in omega arith
+      impossible (cc)
     inner (some (leaves s₁)) y d = y
     inner (some stuck) y d = y

@@ -6,16 +6,15 @@ use mathlib.Core.List.{List, [], _∷_, _++_, append-assoc}
 use mathlib.Core.Option.{Option, some, none}
 use Prim.Native.Nat.{ℕ, zero, _≤_}
 use native.Mathlib.Omega.{arith}
-use Rattle.meaning.specs.Basics.{opt}
 use Rattle.meaning.specs.Syntax.{Program}
 use Rattle.meaning.specs.System.{Worker, System, find}
 use Rattle.meaning.specs.Turns.{can}
 use Rattle.meaning.specs.Fair.{Could}
-use Rattle.meaning.specs.Scheduler.{alive, Woken, Entry, round, worker, serve, flush, slice, batch, At, here, Mem, Distinct, Kept, end, keep, leave, Queues}
-use Rattle.meaning.proofs.Queue.{At-none, At-append, Mem-cases, behind}
+use Rattle.meaning.specs.Scheduler.{Woken, Entry, round, worker, serve, flush, slice, batch, At, here, Mem, Distinct, Kept, Queues}
+use Rattle.meaning.proofs.Queue.{At-none, Mem-cases, behind, Mem-right, Mem-split, Distinct-append, Mem-left, kept-from, kept-distinct, kept-mem, could-not-gone}
 use Rattle.meaning.proofs.Ready.{can-is, ready, ready-more}
 use Rattle.meaning.proofs.Past.{Now, Past}
-use Rattle.meaning.proofs.Splits.{either}
+use Rattle.meaning.proofs.Splits.{either, impossible}
 
 -- who can go on still can, or is no more
 module _ (g : Program) (s t : System) where
@@ -24,96 +23,6 @@ module _ (g : Program) (s t : System) where
   still q w (some x) le c (a, (ms, b)) e = inl (x, e, can-is g t x ∙ ap (λ z. ready (t .clock) z (x .mail)) a ∙ ap (λ z. ready (t .clock) (w .control) z) b ∙ ready-more (s .clock) (t .clock) (w .control) (w .mail) ms le (sym (can-is g s w) ∙ c))
   pub keeps : (n q : ℕ) → Past n s t → (q ≡ n → ⊥) → Could g s q → Could g t q ⊎ (find (t .workers) q ≡ none)
   keeps n q p d (w, f, c) = let e = p .clock in still q w (find (t .workers) q) (omega arith) c (p .others q w d f) refl
-pub not-both : (g : Program) (s : System) (p : ℕ) → find (s .workers) p ≡ none → Could g s p → ⊥
-not-both g s p e c = let z : _≡_ {A = ℕ} 0 1 = cc (c .1) in omega arith
-
--- members of queues
-pub Mem-left : {x : Entry} {es : List Entry} (fs : List Entry) → Mem x es → Mem x (es ++ fs)
-Mem-left fs (n, a) = (n, At-append fs a)
-pub Mem-right : {x : Entry} (es : List Entry) {fs : List Entry} → Mem x fs → Mem x (es ++ fs)
-Mem-right [] m = m
-Mem-right (y ∷ es) m = behind y (Mem-right es m)
-pub Mem-split : {x : Entry} (es : List Entry) {fs : List Entry} → Mem x (es ++ fs) → Mem x es ⊎ Mem x fs
-Mem-split [] m = inr m
-Mem-split {x} (y ∷ es) {fs} m = go (Mem-cases m) (Mem-split es)
-  where
-    go : (x ≡ y) ⊎ Mem x (es ++ fs) → (Mem x (es ++ fs) → Mem x es ⊎ Mem x fs) → Mem x (y ∷ es) ⊎ Mem x fs
-    go (inl e) ih = inl (zero, subst (λ z. At x zero (z ∷ es)) e here)
-    go (inr m) ih = other (ih m)
-      where
-        other : Mem x es ⊎ Mem x fs → Mem x (y ∷ es) ⊎ Mem x fs
-        other (inl a) = inl (behind y a)
-        other (inr b) = inr b
-pub Distinct-append : (es fs : List Entry) → Distinct es → Distinct fs → ((x : Entry) → Mem x es → Mem x fs → ⊥) → Distinct (es ++ fs)
-Distinct-append [] fs d e h = e
-Distinct-append (x ∷ es) fs d e h = (λ m. go (Mem-split es m), Distinct-append es fs (d .1) e (λ y a b. h y (behind x a) b))
-  where
-    go : Mem x es ⊎ Mem x fs → ⊥
-    go (inl a) = d .0 a
-    go (inr b) = h x (zero, here) b
--- those that are no more are left out
-pub alive-kept : (s : System) (es : List Entry) → Kept s es (alive s es)
-alive-kept s [] = end
-alive-kept s (round ∷ es) = keep (alive-kept s es)
-alive-kept s (worker p ∷ es) = go (find (s .workers) p) refl (alive-kept s es)
-  where
-    go : (o : Option Worker) → find (s .workers) p ≡ o → Kept s es (alive s es) → Kept s (worker p ∷ es) (opt o (alive s es) (λ w. worker p ∷ alive s es))
-    go none e ih = leave e ih
-    go (some w) e ih = keep ih
-pub kept-from : {s : System} {es fs : List Entry} → Kept s es fs → (x : Entry) → Mem x fs → Mem x es
-kept-from end x m = m
-kept-from {s} (keep {x = y} {es = es} {fs = fs} k) x m = go (Mem-cases m) (kept-from k x)
-  where
-    go : (x ≡ y) ⊎ Mem x fs → (Mem x fs → Mem x es) → Mem x (y ∷ es)
-    go (inl e) ih = (zero, subst (λ z. At x zero (z ∷ es)) e here)
-    go (inr a) ih = behind y (ih a)
-kept-from (leave {p = p} e k) x m = behind (worker p) (kept-from k x m)
-pub kept-distinct : {s : System} {es fs : List Entry} → Kept s es fs → Distinct es → Distinct fs
-kept-distinct end d = d
-kept-distinct (keep {x = x} k) d = (λ m. d .0 (kept-from k x m), kept-distinct k (d .1))
-kept-distinct (leave e k) d = kept-distinct k (d .1)
-pub kept-to : {s : System} {es fs : List Entry} (g : Program) → Kept s es fs → (p : ℕ) → Could g s p → Mem (worker p) es → Mem (worker p) fs
-kept-to g end p c m = m
-kept-to {s} g (keep {x = y} {es = es} {fs = fs} k) p c m = go (Mem-cases m) (kept-to g k p c)
-  where
-    go : (worker p ≡ y) ⊎ Mem (worker p) es → (Mem (worker p) es → Mem (worker p) fs) → Mem (worker p) (y ∷ fs)
-    go (inl e) ih = (zero, subst (λ z. At (worker p) zero (z ∷ fs)) e here)
-    go (inr a) ih = behind y (ih a)
-kept-to {s} g (leave {p = q} {es = es} {fs = fs} e k) p c m = go (Mem-cases m) (kept-to g k p c)
-  where
-    go : (worker p ≡ worker q) ⊎ Mem (worker p) es → (Mem (worker p) es → Mem (worker p) fs) → Mem (worker p) fs
-    go (inl d) ih = let y : p ≡ q = cc in absurd (not-both g s q e (subst (Could g s) y c))
-    go (inr a) ih = ih a
-pub kept-round : {s : System} {es fs : List Entry} → Kept s es fs → Mem round es → Mem round fs
-kept-round end m = m
-kept-round {s} (keep {x = y} {es = es} {fs = fs} k) m = go (Mem-cases m) (kept-round k)
-  where
-    go : (round ≡ y) ⊎ Mem round es → (Mem round es → Mem round fs) → Mem round (y ∷ fs)
-    go (inl e) ih = (zero, subst (λ z. At round zero (z ∷ fs)) e here)
-    go (inr a) ih = behind y (ih a)
-kept-round {s} (leave {p = q} {es = es} {fs = fs} e k) m = go (Mem-cases m) (kept-round k)
-  where
-    go : (round ≡ worker q) ⊎ Mem round es → (Mem round es → Mem round fs) → Mem round fs
-    go (inl d) ih = let z : _≡_ {A = ℕ} 0 1 = cc in absurd (omega arith)
-    go (inr a) ih = ih a
-
--- those that became able by a move, but for n
-pub alive-not : (t : System) (es : List Entry) (q : ℕ) → Mem (worker q) (alive t es) → find (t .workers) q ≡ none → ⊥
-alive-not t [] q m e = At-none (m .1)
-alive-not t (round ∷ es) q m e = go (Mem-cases m) (λ a. alive-not t es q a e)
-  where
-    go : (worker q ≡ round) ⊎ Mem (worker q) (alive t es) → (Mem (worker q) (alive t es) → ⊥) → ⊥
-    go (inl d) ih = let z : _≡_ {A = ℕ} 0 1 = cc in omega arith
-    go (inr a) ih = ih a
-alive-not t (worker p ∷ es) q m e = go (find (t .workers) p) refl m (λ a. alive-not t es q a e)
-  where
-    go : (o : Option Worker) → find (t .workers) p ≡ o → Mem (worker q) (opt o (alive t es) (λ w. worker p ∷ alive t es)) → (Mem (worker q) (alive t es) → ⊥) → ⊥
-    go none d a ih = ih a
-    go (some w) d a ih = side (Mem-cases a)
-      where
-        side : (worker q ≡ worker p) ⊎ Mem (worker q) (alive t es) → ⊥
-        side (inl f) = let y : q ≡ p = cc in let z : _≡_ {A = ℕ} 0 1 = cc in omega arith
-        side (inr b) = ih b
 
 module _ (g : Program) (s t : System) (n : ℕ) (keeps′ : (q : ℕ) → (q ≡ n → ⊥) → Could g s q → Could g t q ⊎ (find (t .workers) q ≡ none)) (es fs new : List Entry) (kept : Kept t es fs) (not-dead : (q : ℕ) → Mem (worker q) fs → find (t .workers) q ≡ none → ⊥) (w : Woken g n s t new)
     (once : Distinct (worker n ∷ es)) (able : (q : ℕ) → Mem (worker q) es → Could g s q) (all : (q : ℕ) → Could g s q → Mem (worker q) (worker n ∷ es)) where
@@ -137,7 +46,7 @@ module _ (g : Program) (s t : System) (n : ℕ) (keeps′ : (q : ℕ) → (q ≡
       mem (inl e) = let y : q ≡ n = cc in absurd (d y)
       mem (inr a) = a
       go : Could g s q ⊎ Mem (worker q) new → Mem (worker q) (fs ++ new)
-      go (inl a) = Mem-left new (kept-to g kept q c (mem (Mem-cases (all q a))))
+      go (inl a) = Mem-left new (kept-mem (worker q) (λ e. could-not-gone g t q e c) kept (mem (Mem-cases (all q a))))
       go (inr a) = Mem-right fs a
   not-n : Mem (worker n) (fs ++ new) → ⊥
   not-n m = now-able n m .0 refl
@@ -185,4 +94,4 @@ module _ (g : Program) (s t : System) (n : ℕ) (keeps′ : (q : ℕ) → (q ≡
     where
       a : (q : ℕ) → Mem (worker q) (fs ++ new) ⊎ (worker q ≡ round) → Could g t q
       a q (inl m) = now-able q m .1
-      a q (inr e) = let z : _≡_ {A = ℕ} 0 1 = cc in absurd (omega arith)
+      a q (inr e) = impossible (cc)

@@ -11,7 +11,7 @@ use Rattle.meaning.specs.System.{Worker, System}
 use Rattle.meaning.specs.Turns.{can}
 use Rattle.meaning.specs.Moves.{Move, turn, signal, tick, Result, is, not-allowed, no-meaning, on-is, move, moves, begin}
 use Rattle.meaning.specs.Worked.{Shows, echo, failing, out-of-order, swapping, catching, Worked}
-use Rattle.meaning.proofs.Beginning.{moves-append}
+use Rattle.meaning.proofs.Results.{moves-append}
 
 first-able : Program → System → List Worker → Option ℕ
 first-able g s [] = none

@@ -12,7 +12,8 @@ use Rattle.meaning.specs.Moves.{Move, turn, signal, tick, is, on-is, move, mov
 use Rattle.meaning.specs.Fair.{Could, Waits-later, able, In, here, there, All-through, Fair}
 use Rattle.meaning.specs.Scheduler.{Entry, round, worker, Mode, serve, flush, batch, At, Mem, queued, Queues, Small, Idle, After, same-slice, slice-over, Step, by-turn, by-signal, by-tick, by-round, by-pop, Steps, start, and-step}
 use Rattle.meaning.specs.Rounds.{Fair-always}
-use Rattle.meaning.proofs.Queue.{At-cases, At-append, At-length, kept, long, Stays, Mem-cases}
+use Rattle.meaning.proofs.Queue.{At-cases, At-append, At-length, kept, long, Stays, Mem-cases, could-not-gone}
+use Rattle.meaning.proofs.Splits.{impossible}
 
 -- what is still to come: steps, and perhaps one move of any kind
 data Runs (g : Program) : System → Mode → List Entry → List Move → Type 0 where
@@ -48,13 +49,13 @@ same-move (turn p) (turn q) = go (ℕ-discrete p q)
     go : Dec (p ≡ q) → (turn p ≡ turn q) ⊎ (turn p ≡ turn q → ⊥)
     go (yes e) = inl (ap turn e)
     go (no f) = inr (λ e. f (turn-is e))
-same-move (turn p) signal = inr (λ e. let z : _≡_ {A = ℕ} 0 1 = cc in omega arith)
-same-move (turn p) tick = inr (λ e. let z : _≡_ {A = ℕ} 0 1 = cc in omega arith)
-same-move signal (turn q) = inr (λ e. let z : _≡_ {A = ℕ} 0 1 = cc in omega arith)
+same-move (turn p) signal = inr (λ e. impossible (cc))
+same-move (turn p) tick = inr (λ e. impossible (cc))
+same-move signal (turn q) = inr (λ e. impossible (cc))
 same-move signal signal = inl refl
-same-move signal tick = inr (λ e. let z : _≡_ {A = ℕ} 0 1 = cc in omega arith)
-same-move tick (turn q) = inr (λ e. let z : _≡_ {A = ℕ} 0 1 = cc in omega arith)
-same-move tick signal = inr (λ e. let z : _≡_ {A = ℕ} 0 1 = cc in omega arith)
+same-move signal tick = inr (λ e. impossible (cc))
+same-move tick (turn q) = inr (λ e. impossible (cc))
+same-move tick signal = inr (λ e. impossible (cc))
 same-move tick tick = inl refl
 In-or-not : (x : Move) (l : List Move) → In x l ⊎ (In x l → ⊥)
 In-or-not x [] = inr no-In
@@ -75,13 +76,13 @@ Taken round l s m = (l ≡ tick ∷ []) ⊎ ((l ≡ []) × (Waits-later s → �
 Taken (worker q) l s m = (l ≡ []) × ((k : ℕ) × (m ≡ serve q k))
 abbrev Near : Mode → Entry → ℕ → List Move → Mode → List Entry → Type 0
 Near m x n l m′ es′ = (k : ℕ) × At x k es′ × (length l + wait m′ k ≤ wait m n)
-near : (g : Program) (s : System) {m m′ : Mode} {es es′ : List Entry} {l : List Move} {s′ : System} (x : Entry) (n : ℕ) → Step g s m es l s′ m′ es′ → Stays g s′ x → At x n es → Near m x n l m′ es′ ⊎ Taken x l s m′
-near g s {s′ = s′} x n (by-turn {p = p} {k = k} {m = m′} {es = es} {fs = fs} new e r after) c a = inl (go (kept g s′ x n c r a) after)
+near : (g : Program) (s : System) {m m′ : Mode} {es es′ : List Entry} {l : List Move} {s′ : System} (x : Entry) (n : ℕ) → Step g s m es l s′ m′ es′ → Stays s′ x → At x n es → Near m x n l m′ es′ ⊎ Taken x l s m′
+near g s {s′ = s′} x n (by-turn {p = p} {k = k} {m = m′} {es = es} {fs = fs} new e r after) c a = inl (go (kept x n c r a) after)
   where
     go : {m′ : Mode} → (j : ℕ) × (j ≤ n) × At x j fs → After p k m′ → Near (serve p (suc k)) x n (turn p ∷ []) m′ (fs ++ new)
     go (j, le, b) same-slice = (j, At-append new b, omega arith)
     go (j, le, b) slice-over = (j, At-append new b, omega arith)
-near g s {s′ = s′} x n (by-signal {k = k} {es = es} {fs = fs} new e r) c a = inl (go (kept g s′ x n c r a))
+near g s {s′ = s′} x n (by-signal {k = k} {es = es} {fs = fs} new e r) c a = inl (go (kept x n c r a))
   where
     go : (j : ℕ) × (j ≤ n) × At x j fs → Near (flush (suc k)) x n (signal ∷ []) (flush k) (fs ++ new)
     go (j, le, b) = (j, At-append new b, omega arith)
@@ -111,7 +112,7 @@ from-serve q k (by-pop t i f) h = cc
 serving : {g : Program} {s : System} {m : Mode} {es : List Entry} {b : List Move} (q k : ℕ) → Runs g s m es b → m ≡ serve q k → (In (turn q) b → ⊥) → length b ≤ 1
 serving q k stop e h = omega arith
 serving q k loose e h = omega arith
-serving q k (quietly st d i r) e h = let z : _≡_ {A = ℕ} 0 1 = cc (from-serve q k st e) in omega arith
+serving q k (quietly st d i r) e h = impossible (cc (from-serve q k st e))
 serving q k (moving {x = x} {l = l} st d i r) e h = let y : x ≡ turn q = cc (from-serve q k st e) in absurd (h (subst (λ z. In (turn q) (z ∷ l)) (sym y) here))
 
 all-now : (g : Program) (s : System) (b : List Move) (P : System → Type 0) → All-through g s b P → P s
@@ -123,7 +124,7 @@ q-short : {g : Program} {s : System} {m : Mode} {es : List Entry} {b : List Move
 q-short q n stop a all h = omega arith
 q-short q n loose a all h = omega arith
 q-short {g} {s} {m} {es} {b} q n (quietly {s′ = s′} {m′ = m′} {es′ = es′} st d i r) a all h =
-    go (near g s (worker q) n st (all-now g s′ b (λ u. Could g u q) all′) a) (λ k c. q-short q k r c all′ h)
+    go (near g s (worker q) n st (λ e. could-not-gone g s′ q e (all-now g s′ b (λ u. Could g u q) all′)) a) (λ k c. q-short q k r c all′ h)
   where
     all′ : All-through g s′ b (λ u. Could g u q)
     all′ = subst (λ z. All-through g z b (λ u. Could g u q)) d all
@@ -131,13 +132,13 @@ q-short {g} {s} {m} {es} {b} q n (quietly {s′ = s′} {m′ = m′} {es′ = e
     go (inl (k, c, le)) ih = let j = ih k c in omega arith
     go (inr (e, (k, f))) ih = let j = serving q k r f h in omega arith
 q-short {g} {s} {m} {es} q n (moving {s′ = s′} {m′ = m′} {es′ = es′} {x = x} {l = l} st d i r) a all h =
-    go (near g s (worker q) n st (all-now g s′ l (λ u. Could g u q) all′) a) (λ k c. q-short q k r c all′ (λ y. h (there y)))
+    go (near g s (worker q) n st (λ e. could-not-gone g s′ q e (all-now g s′ l (λ u. Could g u q) all′)) a) (λ k c. q-short q k r c all′ (λ y. h (there y)))
   where
     all′ : All-through g s′ l (λ u. Could g u q)
     all′ = all-later g s s′ x l (λ u. Could g u q) d all
     go : Near m (worker q) n (x ∷ []) m′ es′ ⊎ Taken (worker q) (x ∷ []) s m′ → ((k : ℕ) → At (worker q) k es′ → length l ≤ suc (wait m′ k)) → length (x ∷ l) ≤ suc (wait m n)
     go (inl (k, c, le)) ih = let j = ih k c in omega arith
-    go (inr (e, y)) ih = let z : _≡_ {A = ℕ} 0 1 = cc in omega arith
+    go (inr (e, y)) ih = impossible (cc)
 
 t-short : {g : Program} {s : System} {m : Mode} {es : List Entry} {b : List Move} (n : ℕ) → Runs g s m es b → At round n es → All-through g s b Waits-later → (In tick b → ⊥) → length b ≤ suc (wait m n)
 t-short n stop a all h = omega arith
@@ -149,7 +150,7 @@ t-short {g} {s} {m} {es} {b} n (quietly {s′ = s′} {m′ = m′} {es′ = es�
     all′ = subst (λ z. All-through g z b Waits-later) d all
     go : Near m round n [] m′ es′ ⊎ Taken round [] s m′ → ((k : ℕ) → At round k es′ → length b ≤ suc (wait m′ k)) → length b ≤ suc (wait m n)
     go (inl (k, c, le)) ih = let j = ih k c in omega arith
-    go (inr (inl e)) ih = let z : _≡_ {A = ℕ} 0 1 = cc in omega arith
+    go (inr (inl e)) ih = impossible (cc)
     go (inr (inr (e, f))) ih = absurd (f (all-now g s b Waits-later all))
 t-short {g} {s} {m} {es} n (moving {s′ = s′} {m′ = m′} {es′ = es′} {x = x} {l = l} st d i r) a all h =
     go (near g s round n st tt a) (λ k c. t-short k r c (all-later g s s′ x l Waits-later d all) (λ y. h (there y)))
@@ -198,7 +199,7 @@ s-short {g} {s} {m} {es} {b} (quietly {s′ = s′} {m′ = m′} st d i r) all 
   where
     go : Sooner s m [] m′ → length b ≤ suc (until-signal m′) → length b ≤ suc (until-signal m)
     go (inl le) ih = omega arith
-    go (inr (inl e)) ih = let z : _≡_ {A = ℕ} 0 1 = cc in omega arith
+    go (inr (inl e)) ih = impossible (cc)
     go (inr (inr e)) ih = absurd (all-now g s b (λ u. u .signals ≡ [] → ⊥) all e)
 s-short {g} {s} {m} {es} (moving {s′ = s′} {m′ = m′} {x = x} {l = l} st d i r) all h = go (sooner st) (s-short r (all-later g s s′ x l (λ u. u .signals ≡ [] → ⊥) d all) (λ y. h (there y)))
   where
@@ -218,7 +219,7 @@ record Rest (g : Program) (t : System) (r : List Move) : Type 0 where
   exact : Queues g t mode queue
   runs : Runs g t mode queue r
 no-cons : {x : Move} {l : List Move} → [] ≡ x ∷ l → ⊥
-no-cons e = let z : _≡_ {A = ℕ} 0 1 = cc in omega arith
+no-cons e = impossible (cc)
 tail-is : {x y : Move} {l r : List Move} → x ∷ l ≡ y ∷ r → l ≡ r
 tail-is e = cc
 head-is : {x y : Move} {l r : List Move} → x ∷ l ≡ y ∷ r → x ≡ y

@@ -4,11 +4,12 @@ use mathlib.Core.Path.{_≡_, refl, sym, ap, subst, _∙_}
 use mathlib.Core.Bool.{true, false, cond}
 use mathlib.Core.List.{List, [], _∷_, _++_}
 use mathlib.Core.Option.{Option, some, none, Option·map}
+use mathlib.Core.Logic.{_⊎_, inl, inr}
 use Prim.Native.Nat.{ℕ}
 use lib.Dec.{eqb, T}
 use Rattle.meaning.specs.Basics.{opt}
 use Rattle.meaning.specs.System.{Worker, find, change, gone, Apart}
-use Rattle.meaning.proofs.Splits.{cond-all, cond-true, cond-false, bool-all, some-is, none-some, eqb-no, eqb-yes, eqb-is, eqb-isnt}
+use Rattle.meaning.proofs.Splits.{cond-all, cond-true, cond-false, bool-all, some-is, none-some, eqb-no, eqb-yes, eqb-is, eqb-isnt, either, impossible}
 
 -- a worker of a number, after one is changed, is gone, or is new
 abbrev pub Keeps : (Worker → Worker) → Type 0
@@ -25,6 +26,11 @@ pub find-there : (w : Worker) (ws : List Worker) (q : ℕ) → (w .pid ≡ q →
 find-there w ws q d = cond-false (eqb (w .pid) q) (some w) (find ws q) (eqb-no (w .pid) q d)
 pub none-there : (w : Worker) (ws : List Worker) (q : ℕ) → find (w ∷ ws) q ≡ none → (w .pid ≡ q → ⊥) × (find ws q ≡ none)
 none-there w ws q e = cond-all (λ o. o ≡ none → (w .pid ≡ q → ⊥) × (find ws q ≡ none)) (eqb (w .pid) q) (some w) (find ws q) (λ h d. absurd (none-some (sym d))) (λ h d. (eqb-isnt (w .pid) q h, d)) e
+-- numbers apart: nobody behind the first has its number, and whoever stands behind it is found
+pub find-apart : (w : Worker) (ws : List Worker) (q : ℕ) → Apart (w ∷ ws) → w .pid ≡ q → find ws q ≡ none
+find-apart w ws q a e = subst (λ (z : ℕ). find ws z ≡ none) e (a .0)
+pub find-behind : (v : Worker) (ws : List Worker) (q : ℕ) (w : Worker) → Apart (v ∷ ws) → find ws q ≡ some w → find (v ∷ ws) q ≡ some w
+find-behind v ws q w a e = find-there v ws q (λ d. none-some (sym (find-apart v ws q a d) ∙ e)) ∙ e
 
 -- one is changed
 pub find-change-other : (ws : List Worker) (n q : ℕ) (f : Worker → Worker) → Keeps f → (q ≡ n → ⊥) → find (change ws n f) q ≡ find ws q
@@ -82,3 +88,45 @@ pub apart-new : (ws : List Worker) (v : Worker) → find ws (v .pid) ≡ none �
 apart-new [] v e u = (refl, tt)
 apart-new (w ∷ ws) v e u = cond-all (λ o. o ≡ none → Apart (w ∷ (ws ++ (v ∷ [])))) (eqb (w .pid) (v .pid)) (some w) (find ws (v .pid)) (λ h e. absurd (none-some (sym e)))
   (λ h e. (find-append-none ws (v ∷ []) (w .pid) (u .0) ∙ cond-false (eqb (v .pid) (w .pid)) (some v) none (eqb-no (v .pid) (w .pid) (λ r. eqb-isnt (w .pid) (v .pid) h (sym r))), apart-new ws v e (u .1))) e
+
+-- where a worker comes from after a change: the same one, or the one changed
+pub back : (ws : List Worker) (n : ℕ) (f : Worker → Worker) → Keeps f → (q : ℕ) (y : Worker) → find (change ws n f) q ≡ some y → (x : Worker) × (find ws q ≡ some x) × (((q ≡ n → ⊥) × (y ≡ x)) ⊎ ((q ≡ n) × (y ≡ f x)))
+back ws n f kp q y e = bool-all (λ b. (x : Worker) × (find ws q ≡ some x) × (((q ≡ n → ⊥) × (y ≡ x)) ⊎ ((q ≡ n) × (y ≡ f x)))) (eqb q n)
+  (λ h. let p = eqb-is q n h in of-map (find ws q) refl (sym (subst (λ (z : ℕ). find (change ws n f) z ≡ Option·map f (find ws z)) (sym p) (find-change-same ws n f kp)) ∙ e) p)
+  (λ h. (y, sym (find-change-other ws n q f kp (eqb-isnt q n h)) ∙ e, inl (eqb-isnt q n h, refl)))
+  where
+    of-map : (o : Option Worker) → find ws q ≡ o → Option·map f o ≡ some y → q ≡ n → (x : Worker) × (find ws q ≡ some x) × (((q ≡ n → ⊥) × (y ≡ x)) ⊎ ((q ≡ n) × (y ≡ f x)))
+    of-map none r e p = absurd (none-some e)
+    of-map (some x) r e p = (x, r, inr (p, sym (some-is e)))
+pub new-back : (ws : List Worker) (v : Worker) (q : ℕ) (x : Worker) → find (ws ++ (v ∷ [])) q ≡ some x → (find ws q ≡ some x) ⊎ ((q ≡ v .pid) × (x ≡ v))
+new-back ws v q x e = go (find ws q) refl
+  where
+    go : (o : Option Worker) → find ws q ≡ o → (find ws q ≡ some x) ⊎ ((q ≡ v .pid) × (x ≡ v))
+    go (some y) r = inl (r ∙ sym (find-append-some ws (v ∷ []) q y r) ∙ e)
+    go none r = bool-all (λ b. eqb (v .pid) q ≡ b → cond b (some v) none ≡ some x → (find ws q ≡ some x) ⊎ ((q ≡ v .pid) × (x ≡ v))) (eqb (v .pid) q) (λ t d c. inr (sym (eqb-is (v .pid) q d), sym (some-is c))) (λ t d c. absurd (none-some c)) refl (sym (find-append-none ws (v ∷ []) q r) ∙ e)
+-- where a worker is after a change: it is the same one, or the one changed
+pub found-after-change : (ws : List Worker) (n : ℕ) (f : Worker → Worker) → Keeps f → (q : ℕ) (w : Worker) → find ws q ≡ some w → (x : Worker) × (find (change ws n f) q ≡ some x) × (((q ≡ n → ⊥) × (x ≡ w)) ⊎ ((q ≡ n) × (x ≡ f w)))
+found-after-change ws n f kp q w e = go (either q n)
+  where
+    go : (q ≡ n) ⊎ (q ≡ n → ⊥) → (x : Worker) × (find (change ws n f) q ≡ some x) × (((q ≡ n → ⊥) × (x ≡ w)) ⊎ ((q ≡ n) × (x ≡ f w)))
+    go (inl h) = (f w, ap (λ (z : ℕ). find (change ws z f) q) (sym h) ∙ find-changed ws q f w kp e, inr (h, refl))
+    go (inr d) = (w, find-change-other ws n q f kp d ∙ e, inl (d, refl))
+-- fewer workers
+abbrev pub Sub : List Worker → List Worker → Type 0
+Sub vs ws = (q : ℕ) (y : Worker) → find vs q ≡ some y → find ws q ≡ some y
+pub gone-sub : (ws : List Worker) (n : ℕ) → Apart ws → Sub (gone ws n) ws
+gone-sub ws n u q y e = bool-all (λ b. find ws q ≡ some y) (eqb q n)
+  (λ h. absurd (none-some (sym (subst (λ (z : ℕ). find (gone ws n) z ≡ none) (sym (eqb-is q n h)) (find-gone-same ws n u)) ∙ e)))
+  (λ h. sym (find-gone-other ws n q (eqb-isnt q n h)) ∙ e)
+
+-- nobody is gone by a change
+pub change-stays : (ws : List Worker) (n : ℕ) (f : Worker → Worker) → Keeps f → (q : ℕ) (w : Worker) → find ws q ≡ some w → (x : Worker) × (find (change ws n f) q ≡ some x)
+change-stays ws n f kp q w e = let r = found-after-change ws n f kp q w e in (r .0, r .1)
+pub change-here : (ws : List Worker) (n : ℕ) (f : Worker → Worker) → Keeps f → (q : ℕ) (w : Worker) → find ws q ≡ some w → find (change ws n f) q ≡ none → ⊥
+change-here ws n f kp q w e d = let r = found-after-change ws n f kp q w e in none-some (sym d ∙ r .1)
+pub only : (w x : Worker) (q : ℕ) → find (w ∷ []) q ≡ some x → (w .pid ≡ q) × (w ≡ x)
+only w x q h = go (either (w .pid) q)
+  where
+    go : (w .pid ≡ q) ⊎ (w .pid ≡ q → ⊥) → (w .pid ≡ q) × (w ≡ x)
+    go (inl e) = (e, cc (find-here w [] q e))
+    go (inr d) = impossible (cc (find-there w [] q d))

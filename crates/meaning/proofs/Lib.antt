@@ -1,6 +1,8 @@
 pub mod Splits
 pub mod Finding
 pub mod Effects
+pub mod Results
+pub mod Swapping
 pub mod Links
 pub mod Alone
 pub mod Told
@@ -11,8 +13,10 @@ pub mod Numbers
 pub mod Ready
 pub mod Past
 pub mod Able
+pub mod Times
 pub mod Quiet
 pub mod Queue
+pub mod Alive
 pub mod Fairness
 pub mod Exact
 pub mod Actions

@@ -3,44 +3,22 @@ use mathlib.Core.Path.{_≡_, refl, sym, ap, subst, _∙_}
 use mathlib.Core.Logic.{_⊎_, inl, inr}
 use mathlib.Core.Bool.{Bool, true, false, _||_, cond}
 use mathlib.Core.List.{List, [], _∷_, _++_}
-use mathlib.Core.Option.{Option, some, none, Option·map}
+use mathlib.Core.Option.{Option, some, none}
 use Prim.Native.Nat.{ℕ, _+_, _<_}
 use native.Mathlib.Omega.{arith}
 use lib.Dec.{eqb, ltb}
-use Rattle.meaning.specs.Basics.{opt, Name}
+use Rattle.meaning.specs.Basics.{Name}
 use Rattle.meaning.specs.Atoms.{a-old, a-normal}
 use Rattle.meaning.specs.Syntax.{Program}
 use Rattle.meaning.specs.Values.{v-atom, sameV}
 use Rattle.meaning.specs.System.{cut-link, Scope, Control, Frame, Worker, Signal, System, with-signals, find, change, on-worker, set-control, set-mail, add-mail, set-links, set-traps, among, without, add-link, gone, ended, old, end-old, with-version, with-clock, Apart, swapped}
-use Rattle.meaning.specs.Turns.{Outcome, turn-of}
-use Rattle.meaning.specs.Moves.{Move, turn, signal, tick, Result, is, not-allowed, no-meaning, settle, take-signal, deliver, first-time, move, moves, on-is}
+use Rattle.meaning.specs.Turns.{Outcome}
+use Rattle.meaning.specs.Moves.{Move, turn, signal, tick, is, not-allowed, settle, take-signal, deliver, first-time, move}
+use Rattle.meaning.specs.Promise.{Reached, Links-both}
 use Rattle.meaning.specs.Effects.{Effect, nothing, sent, spawned, linked-gone, exited, linked, trapped, showed, named, took, Turned, turn-goes, turn-ends, turn-swaps, turn-swapped-out, turn-stuck}
-use Rattle.meaning.proofs.Splits.{no-clash, cond-all, opt-all, bool-all, some-is, none-some, eqb-no, eqb-yes, eqb-is, eqb-isnt, OnSome}
-use Rattle.meaning.proofs.Finding.{Keeps, find-pid, find-change-other, find-change-same, find-gone-other, find-gone-same, find-append-some, find-append-none, apart-change, apart-gone, apart-new}
-use Rattle.meaning.proofs.Effects.{turn-view}
-
--- what holds of every system that a result is; N stands for having no meaning
-abbrev pub OnR : (System → Type 0) → Type 0 → Result → Type 0
-OnR P N (is s) = P s
-OnR P N not-allowed = Unit {0}
-OnR P N no-meaning = N
-abbrev pub OnIs : (System → Type 0) → Result → Type 0
-OnIs P r = OnR P (Unit {0}) r
-pub on-is-of : (P : System → Type 0) (r : Result) (s : System) → OnIs P r → r ≡ is s → P s
-on-is-of P r s h e = subst (OnIs P) e h
--- along moves
-pub along : (g : Program) (P : System → Type 0) (N : Type 0) → ((s : System) (m : Move) → P s → OnR P N (move g s m)) → (l : List Move) (s : System) → P s → OnR P N (moves g s l)
-along g P N step [] s h = h
-along g P N step (m ∷ l) s h = go (move g s m) (step s m h) (λ t p. along g P N step l t p)
-  where
-    go : (r : Result) → OnR P N r → ((t : System) → P t → OnR P N (moves g t l)) → OnR P N (on-is r (λ t. moves g t l))
-    go (is t) p f = f t p
-    go not-allowed p f = tt
-    go no-meaning p f = p
-pub on-both : (P Q : System → Type 0) (M N : Type 0) (r : Result) → OnR P M r → OnR Q N r → OnR (λ t. P t × Q t) (M × N) r
-on-both P Q M N (is t) p q = (p, q)
-on-both P Q M N not-allowed p q = tt
-on-both P Q M N no-meaning p q = (p, q)
+use Rattle.meaning.proofs.Splits.{no-clash, cond-all, opt-all, bool-all, some-is, none-some, eqb-no, eqb-yes, eqb-is}
+use Rattle.meaning.proofs.Finding.{Keeps, apart-change, apart-gone, apart-new, Sub, back, gone-sub, new-back}
+use Rattle.meaning.proofs.Results.{OnIs, turn-all, reached-all, at-first}
 
 -- membership
 pub among-add : (l x : ℕ) (ls : List ℕ) → among l (ls ++ (x ∷ [])) ≡ (among l ls || eqb l x)
@@ -67,16 +45,6 @@ add-link-more l n w a = cond-all (λ x. among l (x .links) ≡ true) (among n (w
 pub add-link-new : (n : ℕ) (w : Worker) → among n (add-link n w .links) ≡ true
 add-link-new n w = cond-all (λ x. among n (x .links) ≡ true) (among n (w .links)) w (set-links (w .links ++ (n ∷ [])) w) (λ h. h) (λ h. among-add n n (w .links) ∙ ap (λ (b : Bool). b || eqb n n) h ∙ eqb-yes n n refl)
 
--- where a worker comes from after a change: the same one, or the one changed
-pub back : (ws : List Worker) (n : ℕ) (f : Worker → Worker) → Keeps f → (q : ℕ) (y : Worker) → find (change ws n f) q ≡ some y → (x : Worker) × (find ws q ≡ some x) × (((q ≡ n → ⊥) × (y ≡ x)) ⊎ ((q ≡ n) × (y ≡ f x)))
-back ws n f kp q y e = bool-all (λ b. (x : Worker) × (find ws q ≡ some x) × (((q ≡ n → ⊥) × (y ≡ x)) ⊎ ((q ≡ n) × (y ≡ f x)))) (eqb q n)
-  (λ h. let p = eqb-is q n h in of-map (find ws q) refl (sym (subst (λ (z : ℕ). find (change ws n f) z ≡ Option·map f (find ws z)) (sym p) (find-change-same ws n f kp)) ∙ e) p)
-  (λ h. (y, sym (find-change-other ws n q f kp (eqb-isnt q n h)) ∙ e, inl (eqb-isnt q n h, refl)))
-  where
-    of-map : (o : Option Worker) → find ws q ≡ o → Option·map f o ≡ some y → q ≡ n → (x : Worker) × (find ws q ≡ some x) × (((q ≡ n → ⊥) × (y ≡ x)) ⊎ ((q ≡ n) × (y ≡ f x)))
-    of-map none r e p = absurd (none-some e)
-    of-map (some x) r e p = (x, r, inr (p, sym (some-is e)))
-
 -- the invariant, of the workers and the next number
 pub record Sound (ws : List Worker) (next : ℕ) : Type 0 where
   pub apart : Apart ws
@@ -94,27 +62,14 @@ same-links ws n k f kp kl h = record {
   where
     was : (q : ℕ) (y : Worker) → find (change ws n f) q ≡ some y → (x : Worker) × (find ws q ≡ some x) × (y .links ≡ x .links)
     was q y e = let r = back ws n f kp q y e in (r .0, r .1, elim (r .2) [ inl a ↦ ap (λ (z : Worker). z .links) (a .1) | inr a ↦ ap (λ (z : Worker). z .links) (a .1) ∙ kl (r .0) ])
--- fewer workers
-abbrev pub Sub : List Worker → List Worker → Type 0
-Sub vs ws = (q : ℕ) (y : Worker) → find vs q ≡ some y → find ws q ≡ some y
 pub fewer : (vs ws : List Worker) (k : ℕ) → Apart vs → Sub vs ws → Sound ws k → Sound vs k
 fewer vs ws k u sub h = record {
     apart = u;
     below = λ q x e. h .below q x (sub q x e);
     links-below = λ q l x e a. h .links-below q l x (sub q x e) a;
     both = λ p q x y e d a. h .both p q x y (sub p x e) (sub q y d) a }
-pub gone-sub : (ws : List Worker) (n : ℕ) → Apart ws → Sub (gone ws n) ws
-gone-sub ws n u q y e = bool-all (λ b. find ws q ≡ some y) (eqb q n)
-  (λ h. absurd (none-some (sym (subst (λ (z : ℕ). find (gone ws n) z ≡ none) (sym (eqb-is q n h)) (find-gone-same ws n u)) ∙ e)))
-  (λ h. sym (find-gone-other ws n q (eqb-isnt q n h)) ∙ e)
 pub gone-sound : (ws : List Worker) (n k : ℕ) → Sound ws k → Sound (gone ws n) k
 gone-sound ws n k h = fewer (gone ws n) ws k (apart-gone ws n (h .apart)) (gone-sub ws n (h .apart)) h
-pub new-back : (ws : List Worker) (v : Worker) (q : ℕ) (x : Worker) → find (ws ++ (v ∷ [])) q ≡ some x → (find ws q ≡ some x) ⊎ ((q ≡ v .pid) × (x ≡ v))
-new-back ws v q x e = go (find ws q) refl
-  where
-    go : (o : Option Worker) → find ws q ≡ o → (find ws q ≡ some x) ⊎ ((q ≡ v .pid) × (x ≡ v))
-    go (some y) r = inl (r ∙ sym (find-append-some ws (v ∷ []) q y r) ∙ e)
-    go none r = bool-all (λ b. eqb (v .pid) q ≡ b → cond b (some v) none ≡ some x → (find ws q ≡ some x) ⊎ ((q ≡ v .pid) × (x ≡ v))) (eqb (v .pid) q) (λ t d c. inr (sym (eqb-is (v .pid) q d), sym (some-is c))) (λ t d c. absurd (none-some c)) refl (sym (find-append-none ws (v ∷ []) q r) ∙ e)
 -- a new worker, with the next number and no links
 pub new-sound : (ws : List Worker) (k : ℕ) (v : Worker) → v .pid ≡ k → v .links ≡ [] → Sound ws k → Sound (ws ++ (v ∷ [])) (k + 1)
 new-sound ws k v p n h = record {
@@ -199,11 +154,20 @@ soft-sound s g w h = cond-all SoundS (w .traps) _ _ (λ e. same-links (s .worker
 deliver-sound : (s : System) (gs : List Signal) → SoundS s → OnIs SoundS (deliver s gs)
 deliver-sound s [] h = tt
 deliver-sound s (g ∷ gs) h = opt-all (OnIs SoundS) (find (s .workers) (g .to)) (is (with-signals s gs)) (λ w. is (take-signal (with-signals s gs) g w)) (λ e. h) (λ w e. soft-sound (with-signals s gs) g w h)
--- any property of turns, from the view
-pub turn-all : (g : Program) (s : System) (n : ℕ) (P : Result → Type 0) → P not-allowed → ((me : Worker) (o : Outcome) → me .pid ≡ n → find (s .workers) (me .pid) ≡ some me → turn-of g s me ≡ some o → Turned g s me o → P (settle n o)) → P (move g s (turn n))
-turn-all g s n P no-turn f = opt-all P (find (s .workers) n) not-allowed (λ w. opt (turn-of g s w) not-allowed (settle n)) (λ e. no-turn)
-  (λ w e. opt-all P (turn-of g s w) not-allowed (settle n) (λ d. no-turn) (λ o d. let p = find-pid (s .workers) n w e in f w o p (subst (λ (z : ℕ). find (s .workers) z ≡ some w) (sym p) e) d (subst (OnSome (Turned g s w)) d (turn-view g s w))))
 pub move-sound : (g : Program) (s : System) (m : Move) → SoundS s → OnIs SoundS (move g s m)
 move-sound g s (turn n) h = turn-all g s n (OnIs SoundS) tt (λ me o p e d v. turned-sound g s n me o e v h)
 move-sound g s signal h = deliver-sound s (s .signals) h
 move-sound g s tick h = opt-all (OnIs SoundS) (first-time (s .workers)) not-allowed (λ t. cond (ltb (s .clock) t) (is (with-clock s t)) not-allowed) (λ e. tt) (λ t e. cond-all (OnIs SoundS) (ltb (s .clock) t) (is (with-clock s t)) not-allowed (λ d. h) (λ d. tt))
+pub first-sound : (g : Program) (c : Control) → SoundS (at-first g c)
+first-sound g c = record {
+    apart = (refl, tt);
+    below = λ q x e. cond-all (λ o. o ≡ some x → q < 1) (eqb 0 q) _ _ (λ h d. let z = eqb-is 0 q h in omega arith) (λ h d. absurd (none-some d)) e;
+    links-below = λ q l x e a. absurd (bare q x l e a);
+    both = λ p q x y e d a. absurd (bare p x q e a) }
+  where
+    bare : (q : ℕ) (x : Worker) (l : ℕ) → find (at-first g c .workers) q ≡ some x → among l (x .links) ≡ true → ⊥
+    bare q x l e a = cond-all (λ o. o ≡ some x → ⊥) (eqb 0 q) (some (record { pid = 0; control = c; frames = []; mail = []; links = []; traps = false })) none (λ h d. no-clash a (sym (ap (λ (z : Worker). among l (z .links)) (some-is d)))) (λ h d. none-some d) e
+pub reached-sound : (g : Program) (l : List Move) (s : System) → Reached g l s → SoundS s
+reached-sound g l s r = reached-all g SoundS (λ c e. first-sound g c) (move-sound g) l s r
+pub links-both : Links-both
+links-both g l s p q x y r e d a = reached-sound g l s r .both p q x y e d a

@@ -19,11 +19,13 @@ use Rattle.meaning.specs.Bound.{bound-by, bound-by-all, bound-expr, bound-expr
 use Rattle.meaning.specs.Grammar.{ExprAt, looser, compare-e, cons-e, sum-e, product-e, int-e, atom-e, var-e, nil-e, tuple-e, brackets-e, call-e, far-e, spawn-e, spawn-far-e, builtin-e, case-e, receive-e, until-e, catch-e, ExprsOf, none-es, one-es, more-es, BodyOf, last-b, then-b, bind-b, ClausesOf, no-cs, more-cs, FunctionOf, function-x, FunctionsOf, no-f, more-f, ModulesOf, no-m, more-m, count, Reads}
 use Rattle.meaning.specs.Promise.{Reached, Never-stuck}
 use Rattle.meaning.specs.Effects.{From, own, other, took, Turned, turn-goes, turn-ends, turn-swaps, turn-swapped-out, turn-stuck}
-use Rattle.meaning.proofs.Splits.{T-of, and-T, no-clash, cond-all, opt-all, bool-all, some-is, none-some, same-is, same-refl, OnSome, on-some-is}
+use Rattle.meaning.proofs.Splits.{T-of, and-T, no-clash, cond-all, opt-all, bool-all, some-is, none-some, same-is, same-refl, OnSome, on-some-is, on-some-all, some-any}
 use Rattle.meaning.proofs.Effects.{Arity, perform-view}
-use Rattle.meaning.proofs.Links.{OnR, OnIs, along, SoundS, gone-sub, turn-all, move-sound}
-use Rattle.meaning.proofs.Alone.{at-first, begin-all, first-sound}
-use Rattle.meaning.proofs.OwnCode.{OldOr, HasAll, sub-all, settle-all, deliver-all, tick-all, Next, act-next, did-old, old-refl, end-old-sub}
+use Rattle.meaning.proofs.Links.{SoundS, move-sound, first-sound}
+use Rattle.meaning.proofs.OwnCode.{OldOr, HasAll, sub-all, settle-all, deliver-all, Next, act-next, did-old, old-refl}
+use Rattle.meaning.proofs.Finding.{gone-sub}
+use Rattle.meaning.proofs.Results.{OnR, OnIs, along, turn-all, tick-all, at-first, begin-all}
+use Rattle.meaning.proofs.Swapping.{end-old-sub}
 
 -- sound syntax under names
 abbrev mutual
@@ -119,14 +121,6 @@ look-there (b ∷ bs) x t e = bool-all (λ i. same (b .name) x ≡ i → cond i 
   where
     rest : same (b .name) x ≡ false → T (listed x (names-of bs))
     rest h = bool-all (λ i. same x (b .name) ≡ i → T (i || listed x (names-of bs)) → T (listed x (names-of bs))) (same x (b .name)) (λ p j d. no-clash (subst (λ (z : Name). same (b .name) z ≡ true) (sym (same-is x (b .name) (T-of p))) (same-refl (b .name))) h) (λ p j d. d) refl t
-on-some-all : {A D : Type 0} (Pattern : A → Type 0) (R : D → Type 0) (o : Option A) (f : A → Option D) → OnSome Pattern o → ((x : A) → Pattern x → OnSome R (f x)) → OnSome R (on-some o f)
-on-some-all Pattern R none f h i = tt
-on-some-all Pattern R (some x) f h i = i x h
-some-any : {A : Type 0} (o : Option A) → OnSome (λ x. Unit {0}) o
-some-any none = tt
-some-any (some x) = tt
-Named : List Name → List Binding → Type 0
-Named ys cs = names-of cs ≡ ys
 mutual
   match-names : (p : Pattern) (v : Value) (bs : List Binding) → OnSome (λ cs. names-of cs ≡ bound-by p (names-of bs)) (match p v bs)
   match-names p-any v bs = refl

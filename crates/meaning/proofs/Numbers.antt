@@ -17,11 +17,10 @@ use Rattle.meaning.specs.Moves.{Move, turn, signal, tick, Result, is, not-allo
 use Rattle.meaning.specs.Promise.{Few-numbers, Names-live}
 use Rattle.meaning.specs.Effects.{Effect, nothing, sent, spawned, linked-gone, exited, linked, trapped, showed, named, took, Turned, turn-goes, turn-ends, turn-swaps, turn-swapped-out, turn-stuck}
 use Rattle.meaning.proofs.Splits.{cond-all, opt-all, some-is, none-some, eqb-isnt}
-use Rattle.meaning.proofs.Finding.{Keeps, find-gone-other, find-append-some}
-use Rattle.meaning.proofs.Links.{OnIs, on-is-of, add-link-keeps, turn-all}
-use Rattle.meaning.proofs.Alone.{begin-all, reached-all}
-use Rattle.meaning.proofs.Told.{change-stays}
-use Rattle.meaning.proofs.OwnCode.{tick-all}
+use Rattle.meaning.proofs.Finding.{Keeps, find-gone-other, find-append-some, change-stays}
+use Rattle.meaning.proofs.Links.{add-link-keeps}
+use Rattle.meaning.proofs.Results.{OnIs, on-is-of, turn-all, tick-all, begin-all, reached-all}
+use Rattle.meaning.proofs.Swapping.{end-old-next}
 
 -- the next number grows by at most one
 abbrev Up : System → System → Type 0
@@ -37,9 +36,6 @@ did-up g s w me t (trapped b) = omega arith
 did-up g s w me t (showed l) = omega arith
 did-up g s w me t (named x) = omega arith
 did-up g s w me t (took ms) = omega arith
-end-old-next : (us : List Worker) (x : Name) (n : ℕ) (s : System) → end-old us x n s .next ≡ s .next
-end-old-next [] x n s = refl
-end-old-next (u ∷ us) x n s = end-old-next us x n (cond (old x n u) (ended s u (v-atom a-old)) s) ∙ cond-all (λ (t : System). t .next ≡ s .next) (old x n u) (ended s u (v-atom a-old)) s (λ i. refl) (λ i. refl)
 swap-up : (s : System) (x : Name) (m : ℕ) → Up s (swapped s x m)
 swap-up s x m = let e : swapped s x m .next ≡ s .next = end-old-next (s .workers) x m (with-version s x (m + 1)) in omega arith
 turned-up : (g : Program) (s : System) (n : ℕ) (me : Worker) (o : Outcome) → Turned g s me o → OnIs (Up s) (settle n o)

@@ -1,25 +1,27 @@
 -- What a worker goes on with: properties of its code and frames that turns keep.
 use mathlib.Core.Path.{_≡_, refl, sym, ap, subst, _∙_}
 use mathlib.Core.Logic.{_⊎_, inl, inr}
-use mathlib.Core.Bool.{false, cond}
+use mathlib.Core.Bool.{false}
 use mathlib.Core.List.{List, [], _∷_, _++_}
 use mathlib.Core.Option.{some, none}
 use Prim.Native.Nat.{ℕ, _+_}
 use lib.ListN.{length}
 use lib.IntN.{ℤ, pos, negsuc}
-use lib.Dec.{ltb, leb}
+use lib.Dec.{leb}
 use Rattle.meaning.specs.Basics.{Name}
-use Rattle.meaning.specs.Atoms.{a-old, a-type, a-match, a-clause, a-normal}
-use Rattle.meaning.specs.Syntax.{Pattern, Operation, Expr, int, atom, var, nil, apply, case, receive, receive-until, catch, Exprs, no-e, and-e, Body, last, bind, Clauses, Program}
+use Rattle.meaning.specs.Atoms.{a-type, a-match, a-clause, a-normal}
+use Rattle.meaning.specs.Syntax.{Operation, Expr, int, atom, var, nil, apply, case, receive, receive-until, catch, Exprs, no-e, and-e, Body, last, bind, Clauses, Program}
 use Rattle.meaning.specs.Values.{Value, v-atom, as-int, sameV, look-up, match}
-use Rattle.meaning.specs.System.{cut-link, Scope, Until, for-ever, until, Control, eval, give, enter, fail, wait, Frame, operands-frame, bind-frame, case-frame, until-frame, catch-frame, Worker, Signal, System, with-signals, find, change, on-worker, set-control, set-mail, add-mail, set-links, set-traps, add-link, gone, ended, functions-of, function-of, current, among, old, end-old, with-version, with-clock, Apart}
+use Rattle.meaning.specs.System.{cut-link, Scope, Until, for-ever, until, Control, eval, give, enter, fail, wait, Frame, operands-frame, bind-frame, case-frame, until-frame, catch-frame, Worker, Signal, System, with-signals, find, change, on-worker, set-control, set-mail, add-mail, set-links, set-traps, add-link, gone, ended, functions-of, function-of, current, among, with-version, Apart}
 use Rattle.meaning.specs.Turns.{Outcome, goes-on, leaves, stuck, error, gives, choose, take-first, rebind, enter-function, perform, operands, evaluate, begin-body, wait-until, resume, unwind, timed-out, turn-with, turn-of}
-use Rattle.meaning.specs.Moves.{is, not-allowed, take-signal, deliver, first-time, clock-on}
+use Rattle.meaning.specs.Moves.{is, take-signal, deliver}
 use Rattle.meaning.specs.Effects.{From, own, other, Effect, nothing, sent, spawned, linked-gone, exited, linked, trapped, showed, named, took}
 use Rattle.meaning.proofs.Splits.{cond-all, opt-all, some-is, OnSome, on-some-is}
-use Rattle.meaning.proofs.Finding.{Keeps, apart-gone}
+use Rattle.meaning.proofs.Finding.{Keeps, back, new-back, Sub, gone-sub}
 use Rattle.meaning.proofs.Effects.{Arity, Act, acts-value, acts-error, acts-call, acts-swap, acts-swapped-out, acts-stuck, perform-view}
-use Rattle.meaning.proofs.Links.{back, new-back, add-link-keeps, Sub, gone-sub, OnR}
+use Rattle.meaning.proofs.Links.{add-link-keeps}
+use Rattle.meaning.proofs.Results.{OnR}
+use Rattle.meaning.proofs.Swapping.{end-old-sub}
 
 -- every worker of t was there with the same code and frames, or is new and has the property
 abbrev pub OldOr : (Control → Type 0) → System → System → Type 0
@@ -50,12 +52,6 @@ abbrev pub Next : (Control → Type 0) → (List Frame → Type 0) → Type 0 �
 Next PC PK ST s (goes-on c k t) = PC c × PK k × OldOr PC s t
 Next PC PK ST s (leaves t) = Unit {0}
 Next PC PK ST s stuck = ST
-pub end-old-sub : (us : List Worker) (x : Name) (n : ℕ) (s : System) → Apart (s .workers) → Sub (end-old us x n s .workers) (s .workers)
-end-old-sub [] x n s u q y e = e
-end-old-sub (v ∷ us) x n s u q y e = cond-all (λ (t : System). Apart (t .workers) → Sub (t .workers) (s .workers) → find (end-old us x n t .workers) q ≡ some y → find (s .workers) q ≡ some y) (old x n v) (ended s v (v-atom a-old)) s
-  (λ h a b d. b q y (end-old-sub us x n (ended s v (v-atom a-old)) a q y d)) (λ h a b d. b q y (end-old-sub us x n s a q y d))
-  (cond-all (λ (t : System). Apart (t .workers)) (old x n v) (ended s v (v-atom a-old)) s (λ h. apart-gone (s .workers) (v .pid) u) (λ h. u))
-  (cond-all (λ (t : System). Sub (t .workers) (s .workers)) (old x n v) (ended s v (v-atom a-old)) s (λ h. gone-sub (s .workers) (v .pid) u) (λ h q y d. d)) e
 pub act-next : (PC : Control → Type 0) (PK : List Frame → Type 0) (ST : Type 0) (g : Program) (k : List Frame) (s : System) (me : ℕ) (w : Scope) (j : Operation) (n : ℕ) (o : Outcome) → ((v : Value) → PC (give v)) → ((v : Value) → PC (fail v)) → ((c : Control) → From g s w c → PC c) → PK k → ((Arity j n → ⊥) → ST) → Apart (s .workers) → Act g k s me w j n o → Next PC PK ST s o
 act-next PC PK ST g k s me w j n o pv pf fr pk st u (acts-value v d) = (pv v, pk, did-old PC g s w me _ fr d)
 act-next PC PK ST g k s me w j n o pv pf fr pk st u (acts-error r) = (pf r, pk, old-refl PC s)
@@ -91,8 +87,6 @@ module _ (PC : Control → Type 0) (PK : List Frame → Type 0) where
   pub deliver-all : (N : Type 0) (s : System) (gs : List Signal) → Apart (s .workers) → HasAll PC PK (s .workers) → OnR (λ t. HasAll PC PK (t .workers)) N (deliver s gs)
   deliver-all N s [] u h = tt
   deliver-all N s (g ∷ gs) u h = opt-all (OnR (λ t. HasAll PC PK (t .workers)) N) (find (s .workers) (g .to)) (is (with-signals s gs)) (λ w. is (take-signal (with-signals s gs) g w)) (λ e. h) (λ w e. soft-all (with-signals s gs) g w u h)
-pub tick-all : (Pattern : System → Type 0) (N : Type 0) (s : System) → ((t : ℕ) → Pattern (with-clock s t)) → OnR Pattern N (clock-on s)
-tick-all Pattern N s h = opt-all (OnR Pattern N) (first-time (s .workers)) not-allowed (λ t. cond (ltb (s .clock) t) (is (with-clock s t)) not-allowed) (λ e. tt) (λ t e. cond-all (OnR Pattern N) (ltb (s .clock) t) (is (with-clock s t)) not-allowed (λ d. h t) (λ d. tt))
 
 -- where code is at work: a property of each module and version
 abbrev pub AllC : (Name → ℕ → Type 0) → Control → Type 0

@@ -18,8 +18,8 @@ use Rattle.meaning.specs.Moves.{turn, signal, is, settle, time-of, move, take-
 use Rattle.meaning.specs.Effects.{From, own, other, Effect, nothing, took, spawned, showed, sent, linked, linked-gone, exited, trapped, named, Turned, turn-goes, turn-ends, turn-swaps, turn-swapped-out, turn-stuck}
 use Rattle.meaning.specs.Scheduler.{Numbered}
 use Rattle.meaning.proofs.Finding.{Keeps, find-change-none, find-gone-none, find-change-other, find-gone-other, find-changed, find-append-some, find-append-none, apart-change, apart-gone, find-gone-same, apart-new, find-here, find-there}
-use Rattle.meaning.proofs.Links.{OnIs, on-is-of, turn-all}
-use Rattle.meaning.proofs.Splits.{either}
+use Rattle.meaning.proofs.Splits.{either, some-or-none, impossible}
+use Rattle.meaning.proofs.Results.{OnIs, on-is-of, turn-all}
 
 -- what another may do to a worker: the same code at work, and perhaps more mail
 abbrev pub More : Worker → Worker → Type 0
@@ -56,12 +56,9 @@ pub record Past (n : ℕ) (s t : System) : Type 0 where
   pub fresh : (q : ℕ) (x : Worker) → (q ≡ n → ⊥) → find (s .workers) q ≡ none → find (t .workers) q ≡ some x → time-of (x .control) ≡ none
 
 fresh-step : (o p : Option Worker) (y : Worker) → (o ≡ none → p ≡ none) → ((x : Worker) → o ≡ some x → Now x p) → p ≡ some y → ((x : Worker) → o ≡ some x → time-of (x .control) ≡ none) → time-of (y .control) ≡ none
-fresh-step none p y a b e h = let z : _≡_ {A = ℕ} 0 1 = cc (a refl) in absurd (omega arith)
-fresh-step (some x) none y a b e h = let z : _≡_ {A = ℕ} 0 1 = cc in absurd (omega arith)
+fresh-step none p y a b e h = impossible (cc (a refl))
+fresh-step (some x) none y a b e h = impossible (cc)
 fresh-step (some x) (some u) y a b e h = let d : u ≡ y = cc in let m = b x refl in ap (λ z. time-of (z .control)) (sym d) ∙ ap time-of (m .0) ∙ h x refl
-pub some-or-none : (o : Option Worker) → (o ≡ none) ⊎ ((w : Worker) × (o ≡ some w))
-some-or-none none = inl refl
-some-or-none (some w) = inr (w, refl)
 Now-step : (w : Worker) (o p : Option Worker) → Now w o → (o ≡ none → p ≡ none) → ((x : Worker) → o ≡ some x → Now x p) → Now w p
 Now-step w none p a h f = subst (Now w) (sym (h refl)) tt
 Now-step w (some x) none a h f = tt
@@ -71,7 +68,7 @@ pub below-next : (s : System) → Numbered s → (q : ℕ) (w : Worker) → find
 below-next s i q w h = go (decLe (s .next) q)
   where
     go : Dec (s .next ≤ q) → q < s .next
-    go (yes l) = let z : _≡_ {A = ℕ} 0 1 = cc (i .1 q l) in omega arith
+    go (yes l) = impossible (cc (i .1 q l))
     go (no f) = omega arith
 -- code that begins wait for no time
 abbrev pub Young : Option Control → Type 0
@@ -92,7 +89,7 @@ young-from g s w c (other m n f vs d e) = subst Young e (young-code g m n f vs)
 
 module _ (n : ℕ) (s : System) (i : Numbered s) where
   pub past-start : Past n s s
-  past-start = record { numbered = i; next = omega arith; clock = refl; others = λ q w f h. subst (Now w) (sym h) (More-same w); ends = λ q l h. h; fresh = λ q x d h e. let z : _≡_ {A = ℕ} 0 1 = cc in absurd (omega arith) }
+  past-start = record { numbered = i; next = omega arith; clock = refl; others = λ q w f h. subst (Now w) (sym h) (More-same w); ends = λ q l h. h; fresh = λ q x d h e. impossible (cc) }
   -- the same workers
   pub past-same : (t u : System) → u .workers ≡ t .workers → u .next ≡ t .next → u .clock ≡ t .clock → Past n s t → Past n s u
   past-same t u a b c p = record { numbered = (subst Apart (sym a) (p .numbered .0), λ q l. ap (λ ws. find ws q) a ∙ p .numbered .1 q (omega arith)); next = let h = p .next in omega arith; clock = c ∙ p .clock; others = λ q w f h. subst (λ ws. Now w (find ws q)) (sym a) (p .others q w f h); ends = λ q l h. ap (λ ws. find ws q) a ∙ p .ends q l h; fresh = λ q x d h e. p .fresh q x d h (sym (ap (λ ws. find ws q) a) ∙ e) }
@@ -131,7 +128,7 @@ module _ (n : ℕ) (s : System) (i : Numbered s) where
         where
           side : (t .next ≡ q) ⊎ (t .next ≡ q → ⊥) → time-of (x .control) ≡ none
           side (inl b) = let y : new ≡ x = cc (find-append-none (t .workers) (new ∷ []) q f, find-here new [] q b) in ap (λ z. time-of (z .control)) (sym y) ∙ young
-          side (inr b) = let z : _≡_ {A = ℕ} 0 1 = cc (find-append-none (t .workers) (new ∷ []) q f, find-there new [] q b) in absurd (omega arith)
+          side (inr b) = impossible (cc (find-append-none (t .workers) (new ∷ []) q f, find-there new [] q b))
       newer q x d h e (inr (w, f)) = let y : w ≡ x = cc (find-append-some (t .workers) (new ∷ []) q w f) in p .fresh q x d h (subst (λ z. find (t .workers) q ≡ some z) y f)
       apart : (q : ℕ) → t .next ≡ q → t .next + 1 ≤ q → ⊥
       apart q e l = omega arith
@@ -180,5 +177,5 @@ after-signal g s t n i h = go (s .signals) h
     inner x gs none e = let y : with-signals s gs ≡ t = cc in subst (Past n s) y (plain gs)
     inner x gs (some w) e = let y : take-signal (with-signals s gs) x w ≡ t = cc in subst (Past n s) y (soft (with-signals s gs) x w (plain gs))
     go : (gs : List Signal) → deliver s gs ≡ is t → Past n s t
-    go [] e = let z : _≡_ {A = ℕ} 0 1 = cc in absurd (omega arith)
+    go [] e = impossible (cc)
     go (x ∷ gs) e = inner x gs (find (s .workers) (x .to)) e

@@ -1,127 +1,29 @@
 -- There is always a next step: the rules leave nobody without one, but where nothing can move.
 use mathlib.Core.Path.{_≡_, refl, sym, ap, subst, _∙_}
 use mathlib.Core.Logic.{_⊎_, inl, inr}
-use mathlib.Core.Bool.{Bool, true, false, _&&_, not, cond}
+use mathlib.Core.Bool.{true, false, _&&_, not}
 use mathlib.Core.List.{List, [], _∷_, _++_}
 use mathlib.Core.Option.{Option, some, none}
 use Prim.Native.Nat.{ℕ, zero, suc, _<_, _≤_}
 use native.Mathlib.Omega.{arith}
 use native.Mathlib.Decide.{decLe}
+use lib.Dec.{leb}
 use Rattle.meaning.specs.Basics.{opt}
 use Rattle.meaning.specs.Syntax.{Program}
-use Rattle.meaning.specs.System.{Worker, Signal, System, find, with-signals, with-clock, Apart}
-use Rattle.meaning.specs.Turns.{Outcome, goes-on, leaves, stuck, can, turn-of}
-use Rattle.meaning.specs.Moves.{settle, turn, signal, tick, Result, is, not-allowed, no-meaning, move, deliver, take-signal, time-of, first-time, quiet}
+use Rattle.meaning.specs.System.{Worker, Signal, System, find, with-signals, with-clock}
+use Rattle.meaning.specs.Turns.{Outcome, goes-on, leaves, stuck, turn-of}
+use Rattle.meaning.specs.Moves.{settle, turn, signal, tick, Result, is, not-allowed, no-meaning, move, deliver, take-signal, time-of, first-time, quiet, any-can, no-signals}
 use Rattle.meaning.specs.Fair.{Could, Waits-later}
-use Rattle.meaning.specs.Scheduler.{Woken, Numbered, Good, Due, Entry, round, worker, Mode, serve, flush, slice, batch, At, here, Mem, Distinct, Step, Idle}
+use Rattle.meaning.specs.Scheduler.{Woken, Good, Due, Entry, round, worker, Mode, serve, flush, slice, batch, here, Mem, Step, Idle}
 use Rattle.meaning.specs.Rounds.{Budget, Soon, now, after}
-use Rattle.meaning.proofs.Queue.{At-none, Mem-cases, behind}
-use Rattle.meaning.proofs.Finding.{find-here, find-there, find-pid}
-use Rattle.meaning.proofs.Splits.{either}
+use Rattle.meaning.proofs.Queue.{At-none, Mem-cases}
 use Rattle.meaning.proofs.Past.{after-turn, after-signal}
 use Rattle.meaning.proofs.Actions.{turn-on, turn-back, turn-over, signalled, at-round, time-goes, next-round, popped}
-use Rattle.meaning.proofs.Scanning.{newly, woken-time, quiet-now}
+use Rattle.meaning.proofs.Scanning.{woken-time, those, gains, woken-all, could-or-not, newly-can}
 use Rattle.meaning.proofs.Beginning.{due-turn}
+use Rattle.meaning.proofs.Splits.{impossible, is-false, is-true}
+use Rattle.meaning.proofs.Quiet.{one-can}
 
--- those of a list that pass a test
-pub those : (Worker → Bool) → List Worker → List Entry
-those b [] = []
-those b (w ∷ ws) = cond (b w) (worker (w .pid) ∷ those b ws) (those b ws)
-module _ (b : Worker → Bool) where
-  Has : List Worker → Entry → Type 0
-  Has ws x = (q : ℕ) × (w : Worker) × (x ≡ worker q) × (find ws q ≡ some w) × (b w ≡ true)
-  wider : (w : Worker) (ws : List Worker) → find ws (w .pid) ≡ none → (x : Entry) → Has ws x → Has (w ∷ ws) x
-  unfolding Has
-  wider w ws a x (q, y, e, f, c) = (q, y, e, find-there w ws q (λ d. none-at d) ∙ f, c)
-    where
-      none-at : w .pid ≡ q → ⊥
-      none-at d = let z : _≡_ {A = ℕ} 0 1 = cc (sym (ap (find ws) d) ∙ a) in omega arith
-  those-in : (ws : List Worker) → Apart ws → (x : Entry) → Mem x (those b ws) → Has ws x
-  unfolding those Has
-  those-in [] a x m = absurd (At-none (m .1))
-  those-in (w ∷ ws) a x m = go (b w) refl m (those-in ws (a .1) x)
-    where
-      go : (c : Bool) → b w ≡ c → Mem x (cond c (worker (w .pid) ∷ those b ws) (those b ws)) → (Mem x (those b ws) → Has ws x) → Has (w ∷ ws) x
-      go false e m ih = wider w ws (a .0) x (ih m)
-      go true e m ih = side (Mem-cases m)
-        where
-          side : (x ≡ worker (w .pid)) ⊎ Mem x (those b ws) → Has (w ∷ ws) x
-          side (inl d) = (w .pid, w, d, find-here w ws (w .pid) refl, e)
-          side (inr d) = wider w ws (a .0) x (ih d)
-  those-once : (ws : List Worker) → Apart ws → Distinct (those b ws)
-  unfolding those Has
-  those-once [] a = tt
-  those-once (w ∷ ws) a = go (b w) (those-once ws (a .1))
-    where
-      none-of : Mem (worker (w .pid)) (those b ws) → ⊥
-      none-of m = let y = those-in ws (a .1) (worker (w .pid)) m in let e : y .0 ≡ w .pid = cc (y .2) in let z : _≡_ {A = ℕ} 0 1 = cc (ap (find ws) e, y .3, a .0) in omega arith
-      go : (c : Bool) → Distinct (those b ws) → Distinct (cond c (worker (w .pid) ∷ those b ws) (those b ws))
-      go true ih = (none-of, ih)
-      go false ih = ih
-  those-has : (ws : List Worker) (q : ℕ) (w : Worker) → find ws q ≡ some w → b w ≡ true → Mem (worker q) (those b ws)
-  unfolding those
-  those-has [] q w f c = let z : _≡_ {A = ℕ} 0 1 = cc in absurd (omega arith)
-  those-has (x ∷ ws) q w f c = side (either (x .pid) q) (those-has ws q w)
-    where
-      skip : (d : Bool) → Mem (worker q) (those b ws) → Mem (worker q) (cond d (worker (x .pid) ∷ those b ws) (those b ws))
-      skip true m = behind (worker (x .pid)) m
-      skip false m = m
-      side : (x .pid ≡ q) ⊎ (x .pid ≡ q → ⊥) → (find ws q ≡ some w → b w ≡ true → Mem (worker q) (those b ws)) → Mem (worker q) (cond (b x) (worker (x .pid) ∷ those b ws) (those b ws))
-      side (inl e) ih =
-        let y : x ≡ w = cc (find-here x ws q e) in
-        let d : b x ≡ true = ap b y ∙ c in
-        subst (λ z. Mem (worker q) (cond z (worker (x .pid) ∷ those b ws) (those b ws))) (sym d) (zero, subst (λ z. At (worker q) zero (worker z ∷ those b ws)) (sym e) here)
-      side (inr e) ih = skip (b x) (ih (sym (find-there x ws q e) ∙ f) c)
--- somebody can, or can't
-could : Program → System → ℕ → Bool
-could g s q = opt (find (s .workers) q) false (can g s)
-could-is : (g : Program) (s : System) (q : ℕ) → could g s q ≡ true → Could g s q
-unfolding could
-could-is g s q h = go (find (s .workers) q) refl h
-  where
-    go : (o : Option Worker) → find (s .workers) q ≡ o → opt o false (can g s) ≡ true → Could g s q
-    go none e h = let z : _≡_ {A = ℕ} 0 1 = cc in absurd (omega arith)
-    go (some w) e h = (w, e, h)
-is-could : (g : Program) (s : System) (q : ℕ) → Could g s q → could g s q ≡ true
-unfolding could
-is-could g s q (w, f, c) = ap (λ o. opt o false (can g s)) f ∙ c
-decide : (b : Bool) → (b ≡ true) ⊎ (b ≡ false)
-decide true = inl refl
-decide false = inr refl
-pub could-or-not : (g : Program) (s : System) (q : ℕ) → Could g s q ⊎ (Could g s q → ⊥)
-could-or-not g s q = go (decide (could g s q))
-  where
-    go : (could g s q ≡ true) ⊎ (could g s q ≡ false) → Could g s q ⊎ (Could g s q → ⊥)
-    go (inl e) = inl (could-is g s q e)
-    go (inr e) = inr (λ c. let y = is-could g s q c in let z : _≡_ {A = ℕ} 0 1 = cc in omega arith)
--- whoever became able, of all
-pub gains : Program → ℕ → System → System → Worker → Bool
-gains g n s t w = not (could g s (w .pid)) && (can g t w && not (lib.Dec.eqb (w .pid) n))
-and-both : (a b c : Bool) → (not a && (b && not c)) ≡ true → (a ≡ false) × (b ≡ true) × (c ≡ false)
-and-both false true false h = (refl, refl, refl)
-and-both true b c h = (cc, cc, cc)
-and-both false false c h = (cc, cc, cc)
-and-both false true true h = (cc, cc, cc)
-and-all : (a b c : Bool) → a ≡ false → b ≡ true → c ≡ false → (not a && (b && not c)) ≡ true
-and-all a b c x y z = ap (λ u. not u && (b && not c)) x ∙ ap (λ u. u && not c) y ∙ ap not z
-pub woken-all : (g : Program) (n : ℕ) (s t : System) → Numbered t → Woken g n s t (those (gains g n s t) (t .workers))
-unfolding gains Has
-woken-all g n s t i = record { once = those-once (gains g n s t) (t .workers) (i .0); each = each; all = all }
-  where
-    each : (x : Entry) → Mem x (those (gains g n s t) (t .workers)) → (q : ℕ) × (x ≡ worker q) × (q ≡ n → ⊥) × Could g t q × (Could g s q → ⊥)
-    each x m = go (those-in (gains g n s t) (t .workers) (i .0) x m)
-      where
-        go : Has (gains g n s t) (t .workers) x → (q : ℕ) × (x ≡ worker q) × (q ≡ n → ⊥) × Could g t q × (Could g s q → ⊥)
-        go (q, w, e, f, c) =
-          let p = find-pid (t .workers) q w f in
-          let y = and-both (could g s (w .pid)) (can g t w) (lib.Dec.eqb (w .pid) n) c in
-          (q, e, (λ d. borrow.Author.Tests.eqb-false (w .pid) n (y .2) (p ∙ d)), (w, f, y .1), (λ d. let k = is-could g s q d in let r = ap (could g s) p in let a = y .0 in let z : _≡_ {A = ℕ} 0 1 = cc in omega arith))
-    all : (q : ℕ) → (q ≡ n → ⊥) → Could g t q → Could g s q ⊎ Mem (worker q) (those (gains g n s t) (t .workers))
-    all q d (w, f, c) = go (decide (could g s q))
-      where
-        go : (could g s q ≡ true) ⊎ (could g s q ≡ false) → Could g s q ⊎ Mem (worker q) (those (gains g n s t) (t .workers))
-        go (inl e) = inl (could-is g s q e)
-        go (inr e) = let p = find-pid (t .workers) q w f in inr (those-has (gains g n s t) (t .workers) q w f (and-all (could g s (w .pid)) (can g t w) (lib.Dec.eqb (w .pid) n) (ap (could g s) p ∙ e) c (borrow.Author.Tests.apart-eqb (w .pid) n (λ h. d (sym p ∙ h)))))
 due-or-not : (s : System) (q : ℕ) → Due s q ⊎ (Due s q → ⊥)
 due-or-not s q = one (find (s .workers) q) refl
   where
@@ -135,21 +37,30 @@ due-or-not s q = one (find (s .workers) q) refl
     two w f none e = inr (λ d. other d)
       where
         other : Due s q → ⊥
-        other (x, v, f′, e′, l) = let y : w ≡ x = cc in let z : _≡_ {A = ℕ} 0 1 = cc (ap (λ k. time-of (k .control)) y) in omega arith
+        other (x, v, f′, e′, l) = let y : w ≡ x = cc in impossible (cc (ap (λ k. time-of (k .control)) y))
     two w f (some u) e = three w f u e (decLe u (s .clock))
     one : (o : Option Worker) → find (s .workers) q ≡ o → Due s q ⊎ (Due s q → ⊥)
-    one none e = inr (λ d. let f = d .2 in let z : _≡_ {A = ℕ} 0 1 = cc in omega arith)
+    one none e = inr (λ d. let f = d .2 in impossible (cc))
     one (some w) e = two w e (time-of (w .control)) refl
+pub quiet-now : (g : Program) (s : System) (k : ℕ) → Good g s (flush k) (round ∷ []) → s .signals ≡ [] → first-time (s .workers) ≡ none → quiet g s ≡ true
+quiet-now g s k i e f = ap (λ z. no-signals z && (not (any-can g s (s .workers)) && opt (first-time (s .workers)) true (λ t. leb t (s .clock)))) e ∙ ap (λ z. not z && opt (first-time (s .workers)) true (λ t. leb t (s .clock))) (is-false (any-can g s (s .workers)) (λ h. let r = one-can g s (s .workers) (i .numbered .0) (is-true (any-can g s (s .workers)) h) in nobody (r .0) (i .exact .all (r .0) (r .1, r .2, r .3)))) ∙ ap (λ z. opt z true (λ t. leb t (s .clock))) f
+  where
+    nobody : (q : ℕ) → Mem (worker q) (round ∷ []) → ⊥
+    nobody q m = go (Mem-cases m)
+      where
+        go : (worker q ≡ round) ⊎ Mem (worker q) [] → ⊥
+        go (inl d) = impossible (cc)
+        go (inr b) = At-none (b .1)
 
 turn-allowed : (g : Program) (s : System) (n : ℕ) → Could g s n → move g s (turn n) ≡ not-allowed → ⊥
 turn-allowed g s n (w, f, c) h = inner (turn-of g s w) c (sym (ap (λ o. opt o not-allowed (λ y. opt (turn-of g s y) not-allowed (settle n))) f) ∙ h)
   where
     denied : (o : Outcome) → settle n o ≡ not-allowed → ⊥
-    denied (goes-on c k u) e = let z : _≡_ {A = ℕ} 0 1 = cc in omega arith
-    denied (leaves u) e = let z : _≡_ {A = ℕ} 0 1 = cc in omega arith
-    denied stuck e = let z : _≡_ {A = ℕ} 0 1 = cc in omega arith
+    denied (goes-on c k u) e = impossible (cc)
+    denied (leaves u) e = impossible (cc)
+    denied stuck e = impossible (cc)
     inner : (o : Option Outcome) → opt o false (λ x. true) ≡ true → opt o not-allowed (settle n) ≡ not-allowed → ⊥
-    inner none a e = let z : _≡_ {A = ℕ} 0 1 = cc in omega arith
+    inner none a e = impossible (cc)
     inner (some o) a e = denied o e
 abbrev No-meaning : Program → System → Type 0
 No-meaning g s = (n : ℕ) × (move g s (turn n) ≡ no-meaning)
@@ -208,7 +119,7 @@ round-soon g s k es i idle = go (at-round g s k es i)
         side a b (inr y) = inr (inl y)
     go : ((first-time (s .workers) ≡ none) × (Waits-later s → ⊥)) ⊎ ((u : ℕ) × (s .clock < u) × (first-time (s .workers) ≡ some u) × (move g s tick ≡ is (with-clock s u))) → Comes-on g s (flush k) (round ∷ es)
     go (inl (h, f)) = on h f (s .signals) refl es refl
-    go (inr (u, l, e, mv)) = let y = time-goes g s k u es (newly g s (with-clock s u) (s .workers)) i l (woken-time g s u (i .numbered)) idle mv in inl (now (y .0) (y .1) tt)
+    go (inr (u, l, e, mv)) = let y = time-goes g s k u es (those (newly-can g s (with-clock s u)) (s .workers)) i l (woken-time g s u (i .numbered)) idle mv in inl (now (y .0) (y .1) tt)
 pub flush-soon : (g : Program) (s : System) (k : ℕ) (es : List Entry) → Good g s (flush k) es → Comes-on g s (flush k) es
 flush-soon g s k es i = one k i (s .signals) refl
   where

@@ -12,8 +12,9 @@ use Rattle.meaning.specs.Syntax.{Program}
 use Rattle.meaning.specs.System.{Worker, System, find}
 use Rattle.meaning.specs.Turns.{can}
 use Rattle.meaning.specs.Fair.{Could, able}
-use Rattle.meaning.specs.Scheduler.{Entry, round, worker, At, here, there, Mem, Distinct, Kept, end, keep, leave}
+use Rattle.meaning.specs.Scheduler.{Entry, round, worker, At, here, there, Mem, Distinct, Kept, end, keep, leave, Before, first, next}
 use Rattle.meaning.proofs.Finding.{find-here, find-there}
+use Rattle.meaning.proofs.Splits.{impossible, none-some}
 
 pub At-cases : {x y : Entry} {n : ℕ} {es : List Entry} → At x n (y ∷ es) → (x ≡ y) ⊎ ((k : ℕ) × (n ≡ suc k) × At x k es)
 At-cases here = inl refl
@@ -30,34 +31,35 @@ At-append fs (there a) = there (At-append fs a)
 pub At-length : {x : Entry} {n : ℕ} {es : List Entry} → At x n es → n < length es
 At-length {es = es} here = omega arith
 At-length (there a) = let h = At-length a in omega arith
-
+-- an entry that stays in the queue: the end of a round, or a worker that is there
+abbrev pub Stays : System → Entry → Type 0
+Stays s round = Unit {0}
+Stays s (worker p) = find (s .workers) p ≡ none → ⊥
+pub could-not-gone : (g : Program) (s : System) (p : ℕ) → find (s .workers) p ≡ none → Could g s p → ⊥
+could-not-gone g s p e c = none-some (sym e ∙ c .1)
 -- what is kept stands no further back
-module _ (g : Program) (s : System) where
-  abbrev pub Stays : Entry → Type 0
-  Stays round = Unit {0}
-  Stays (worker p) = Could g s p
-  not-both : (p : ℕ) → find (s .workers) p ≡ none → Could g s p → ⊥
-  not-both p e c = let z : _≡_ {A = ℕ} 0 1 = cc (c .1) in omega arith
-  abbrev pub Nearer : Entry → ℕ → List Entry → Type 0
-  Nearer x n fs = (k : ℕ) × (k ≤ n) × At x k fs
-  pub kept : {es fs : List Entry} (x : Entry) (n : ℕ) → Stays x → Kept s es fs → At x n es → Nearer x n fs
-  kept x n c end a = absurd (At-none a)
-  kept x n c (keep {x = y} {es = es} {fs = fs} r) a = go (At-cases a) (λ k b. kept x k c r b)
-    where
-      go : (x ≡ y) ⊎ ((k : ℕ) × (n ≡ suc k) × At x k es) → ((k : ℕ) → At x k es → Nearer x k fs) → Nearer x n (y ∷ fs)
-      go (inl e) ih = (zero, omega arith, subst (λ z. At x zero (z ∷ fs)) e here)
-      go (inr b) ih = let h = ih (b .0) (b .2) in let e = b .1 in let le = h .1 in (suc (h .0), omega arith, there (h .2))
-  kept x n c (leave {p = p} {es = es} {fs = fs} e r) a = go (At-cases a) (λ k b. kept x k c r b)
-    where
-      go : (x ≡ worker p) ⊎ ((k : ℕ) × (n ≡ suc k) × At x k es) → ((k : ℕ) → At x k es → Nearer x k fs) → Nearer x n fs
-      go (inl d) ih = absurd (not-both p e (subst Stays d c))
-      go (inr b) ih = let h = ih (b .0) (b .2) in let d = b .1 in let le = h .1 in (h .0, omega arith, h .2)
+abbrev pub Nearer : Entry → ℕ → List Entry → Type 0
+Nearer x n fs = (k : ℕ) × (k ≤ n) × At x k fs
+pub kept : {s : System} {es fs : List Entry} (x : Entry) (n : ℕ) → Stays s x → Kept s es fs → At x n es → Nearer x n fs
+kept x n c end a = absurd (At-none a)
+kept x n c (keep {x = y} {es = es} {fs = fs} r) a = go (At-cases a) (λ k b. kept x k c r b)
+  where
+    go : (x ≡ y) ⊎ ((k : ℕ) × (n ≡ suc k) × At x k es) → ((k : ℕ) → At x k es → Nearer x k fs) → Nearer x n (y ∷ fs)
+    go (inl e) ih = (zero, omega arith, subst (λ z. At x zero (z ∷ fs)) e here)
+    go (inr b) ih = let h = ih (b .0) (b .2) in let e = b .1 in let le = h .1 in (suc (h .0), omega arith, there (h .2))
+kept {s} x n c (leave {p = p} {es = es} {fs = fs} e r) a = go (At-cases a) (λ k b. kept x k c r b)
+  where
+    go : (x ≡ worker p) ⊎ ((k : ℕ) × (n ≡ suc k) × At x k es) → ((k : ℕ) → At x k es → Nearer x k fs) → Nearer x n fs
+    go (inl d) ih = absurd (subst (Stays s) d c e)
+    go (inr b) ih = let h = ih (b .0) (b .2) in let d = b .1 in let le = h .1 in (h .0, omega arith, h .2)
+pub kept-mem : {s : System} {es fs : List Entry} (x : Entry) → Stays s x → Kept s es fs → Mem x es → Mem x fs
+kept-mem x c k m = let r = kept x (m .0) c k (m .1) in (r .0, r .2)
 
 -- how many stand in a queue: no more than those that can go on, and the end of the round
 worker-is : {p q : ℕ} → worker p ≡ worker q → p ≡ q
 worker-is e = cc
 decide : (n : ℕ) (y : Entry) → (y ≡ worker n) ⊎ (y ≡ worker n → ⊥)
-decide n round = inr (λ e. let z : _≡_ {A = ℕ} 0 1 = cc in omega arith)
+decide n round = inr (λ e. impossible (cc))
 decide n (worker p) = go (ℕ-discrete p n)
   where
     go : Dec (p ≡ n) → (worker p ≡ worker n) ⊎ (worker p ≡ worker n → ⊥)
@@ -104,7 +106,7 @@ module _ (g : Program) (s : System) where
   one-at-most (round ∷ worker p ∷ es) d f = absurd (f p (behind round (zero, here)))
   one-at-most (round ∷ round ∷ es) d f = absurd (d .0 (zero, here))
   pub long : (ws : List Worker) (es : List Entry) → Distinct es → ((p : ℕ) → Mem (worker p) es → Can-in ws p) → length es ≤ 1 + able g s ws
-  long [] es d c = let h = one-at-most es d (λ p m. let z : _≡_ {A = ℕ} 0 1 = cc (c p m .1) in omega arith) in omega arith
+  long [] es d c = let h = one-at-most es d (λ p m. impossible (cc (c p m .1))) in omega arith
   long (w ∷ ws) es d c = go (pull (w .pid) es d) (λ fs. long ws fs)
     where
       past : (p : ℕ) → (p ≡ w .pid → ⊥) → Can-in (w ∷ ws) p → Can-in ws p
@@ -118,3 +120,79 @@ module _ (g : Program) (s : System) where
         let y : _≡_ {A = ℕ} (cond {A = ℕ} (can g s w) 1 0) 1 = ap (λ b. cond {A = ℕ} b 1 0) (subst (λ z. can g s z ≡ true) e (h .2)) in
         let n = r .len in
         omega arith
+
+-- members of queues
+pub Mem-left : {x : Entry} {es : List Entry} (fs : List Entry) → Mem x es → Mem x (es ++ fs)
+Mem-left fs (n, a) = (n, At-append fs a)
+pub Mem-right : {x : Entry} (es : List Entry) {fs : List Entry} → Mem x fs → Mem x (es ++ fs)
+Mem-right [] m = m
+Mem-right (y ∷ es) m = behind y (Mem-right es m)
+pub Mem-split : {x : Entry} (es : List Entry) {fs : List Entry} → Mem x (es ++ fs) → Mem x es ⊎ Mem x fs
+Mem-split [] m = inr m
+Mem-split {x} (y ∷ es) {fs} m = go (Mem-cases m) (Mem-split es)
+  where
+    go : (x ≡ y) ⊎ Mem x (es ++ fs) → (Mem x (es ++ fs) → Mem x es ⊎ Mem x fs) → Mem x (y ∷ es) ⊎ Mem x fs
+    go (inl e) ih = inl (zero, subst (λ z. At x zero (z ∷ es)) e here)
+    go (inr m) ih = other (ih m)
+      where
+        other : Mem x es ⊎ Mem x fs → Mem x (y ∷ es) ⊎ Mem x fs
+        other (inl a) = inl (behind y a)
+        other (inr b) = inr b
+pub Distinct-append : (es fs : List Entry) → Distinct es → Distinct fs → ((x : Entry) → Mem x es → Mem x fs → ⊥) → Distinct (es ++ fs)
+Distinct-append [] fs d e h = e
+Distinct-append (x ∷ es) fs d e h = (λ m. go (Mem-split es m), Distinct-append es fs (d .1) e (λ y a b. h y (behind x a) b))
+  where
+    go : Mem x es ⊎ Mem x fs → ⊥
+    go (inl a) = d .0 a
+    go (inr b) = h x (zero, here) b
+pub kept-from : {s : System} {es fs : List Entry} → Kept s es fs → (x : Entry) → Mem x fs → Mem x es
+kept-from end x m = m
+kept-from {s} (keep {x = y} {es = es} {fs = fs} k) x m = go (Mem-cases m) (kept-from k x)
+  where
+    go : (x ≡ y) ⊎ Mem x fs → (Mem x fs → Mem x es) → Mem x (y ∷ es)
+    go (inl e) ih = (zero, subst (λ z. At x zero (z ∷ es)) e here)
+    go (inr a) ih = behind y (ih a)
+kept-from (leave {p = p} e k) x m = behind (worker p) (kept-from k x m)
+pub kept-distinct : {s : System} {es fs : List Entry} → Kept s es fs → Distinct es → Distinct fs
+kept-distinct end d = d
+kept-distinct (keep {x = x} k) d = (λ m. d .0 (kept-from k x m), kept-distinct k (d .1))
+kept-distinct (leave e k) d = kept-distinct k (d .1)
+
+pub Before-cases : {x y z : Entry} {es : List Entry} → Before x y (z ∷ es) → ((x ≡ z) × Mem y es) ⊎ Before x y es
+Before-cases (first m) = inl (refl, m)
+Before-cases (next b) = inr b
+Before-none : {x y : Entry} → Before x y [] → ⊥
+Before-none a = elim a as (λ es b. is-none es → ⊥) [ first m ↦ λ e. e | next b ↦ λ e. e ] tt
+  where
+    is-none : List Entry → Type 0
+    is-none [] = Unit {0}
+    is-none (x ∷ es) = ⊥
+pub Before-mem : {x y : Entry} {es : List Entry} → Before x y es → Mem y es
+Before-mem {x} (first m) = behind x m
+Before-mem (next {z = z} b) = behind z (Before-mem b)
+pub Before-append : {x y : Entry} {es : List Entry} (fs : List Entry) → Before x y es → Before x y (es ++ fs)
+Before-append fs (first m) = first (Mem-left fs m)
+Before-append fs (next b) = next (Before-append fs b)
+pub Before-last : (x y : Entry) (es : List Entry) → Mem x es → Before x y (es ++ (y ∷ []))
+Before-last x y [] m = absurd (At-none (m .1))
+Before-last x y (z ∷ es) m = go (Mem-cases m) (Before-last x y es)
+  where
+    go : (x ≡ z) ⊎ Mem x es → (Mem x es → Before x y (es ++ (y ∷ []))) → Before x y (z ∷ (es ++ (y ∷ [])))
+    go (inl e) ih = subst (λ w. Before x y (w ∷ (es ++ (y ∷ [])))) e (first (Mem-right es (zero, here)))
+    go (inr a) ih = next (ih a)
+pub Before-kept : {s : System} {es fs : List Entry} (q : ℕ) → Kept s es fs → (find (s .workers) q ≡ none → ⊥) → Before (worker q) round es → Before (worker q) round fs
+Before-kept q end h b = absurd (Before-none b)
+Before-kept q (keep {x = x} {es = es} {fs = fs} k) h b = go (Before-cases b) (Before-kept q k h)
+  where
+    go : ((worker q ≡ x) × Mem round es) ⊎ Before (worker q) round es → (Before (worker q) round es → Before (worker q) round fs) → Before (worker q) round (x ∷ fs)
+    go (inl (e, m)) ih = subst (λ w. Before (worker q) round (w ∷ fs)) e (first (kept-mem round tt k m))
+    go (inr a) ih = next (ih a)
+Before-kept {s} q (leave {p = p} {es = es} {fs = fs} d k) h b = go (Before-cases b) (Before-kept q k h)
+  where
+    go : ((worker q ≡ worker p) × Mem round es) ⊎ Before (worker q) round es → (Before (worker q) round es → Before (worker q) round fs) → Before (worker q) round fs
+    go (inl (e, m)) ih = let y : q ≡ p = cc in absurd (h (ap (find (s .workers)) y ∙ d))
+    go (inr a) ih = ih a
+
+pub keep-all : (s : System) (es : List Entry) → Kept s es es
+keep-all s [] = end
+keep-all s (x ∷ es) = keep (keep-all s es)

@@ -1,10 +1,11 @@
 -- Quiet is where no move can be made; who newly can go on; when the clock can.
+use Rattle.meaning.proofs.Finding.{find-behind}
 use mathlib.Core.Path.{_≡_, refl, sym, ap, subst, _∙_}
 use mathlib.Core.Logic.{_⊎_, inl, inr}
 use mathlib.Core.Bool.{Bool, true, false, _&&_, _||_, not, cond}
 use mathlib.Core.List.{List, [], _∷_, _++_}
 use mathlib.Core.Option.{Option, some, none}
-use Prim.Native.Nat.{ℕ, _+_, _≤_, min}
+use Prim.Native.Nat.{ℕ, _+_}
 use native.Mathlib.Omega.{arith}
 use lib.Dec.{eqb, ltb, leb, T, leb→le, ltb→lt, lt→ltb, nleb→lt}
 use Rattle.meaning.specs.Basics.{opt}
@@ -12,38 +13,25 @@ use Rattle.meaning.specs.Syntax.{Program}
 use Rattle.meaning.specs.Values.{Value}
 use Rattle.meaning.specs.System.{Scope, Control, Frame, Worker, Signal, System, with-signals, find, change, on-worker, set-control, set-mail, add-mail, set-links, set-traps, add-link, among, with-version, with-clock, Apart, swapped}
 use Rattle.meaning.specs.Turns.{Outcome, goes-on, leaves, stuck, turn-of, can}
-use Rattle.meaning.specs.Moves.{Move, turn, signal, tick, Result, is, not-allowed, settle, take-signal, deliver, any-can, time-of, sooner, first-time, move, no-signals, quiet}
+use Rattle.meaning.specs.Moves.{Move, turn, signal, tick, Result, is, not-allowed, settle, take-signal, deliver, any-can, first-time, move, no-signals, quiet}
 use Rattle.meaning.specs.Promise.{Quiet-means, Newly-able, Clock-goes}
 use Rattle.meaning.specs.Effects.{Effect, nothing, sent, spawned, linked-gone, exited, linked, trapped, showed, named, took, Turned, turn-goes, turn-ends, turn-swaps, turn-swapped-out, turn-stuck}
-use Rattle.meaning.proofs.Splits.{T-of, is-true, no-clash, cond-all, opt-all, cond-true, bool-all, some-is, none-some, eqb-yes, eqb-is}
-use Rattle.meaning.proofs.Finding.{find-change-other}
-use Rattle.meaning.proofs.Links.{OnR, OnIs, on-is-of, SoundS, back, new-back, gone-sub, add-link-keeps, turn-all}
-use Rattle.meaning.proofs.Alone.{reached-sound}
-use Rattle.meaning.proofs.OwnCode.{end-old-sub}
+use Rattle.meaning.proofs.Splits.{T-of, is-true, no-clash, cond-all, opt-all, cond-true, bool-all, some-is, none-some, or-no, and-yes, not-yes}
+use Rattle.meaning.proofs.Finding.{find-change-other, back, new-back, gone-sub, find-here}
+use Rattle.meaning.proofs.Links.{SoundS, add-link-keeps, reached-sound}
 use Rattle.meaning.proofs.NeverStuck.{WfS, GMs, reads-good, move-wf, reached-wf}
 use Rattle.meaning.proofs.Able.{canC, can-is, turned-clock}
+use Rattle.meaning.proofs.Results.{OnR, OnIs, on-is-of, turn-all}
+use Rattle.meaning.proofs.Swapping.{end-old-sub}
+use Rattle.meaning.proofs.Times.{first-is, first-below, tick-is}
 
--- a worker of the list is the one found under its number
-pub here-found : (w : Worker) (ws : List Worker) → find (w ∷ ws) (w .pid) ≡ some w
-here-found w ws = cond-true (eqb (w .pid) (w .pid)) (some w) (find ws (w .pid)) (eqb-yes (w .pid) (w .pid) refl)
-pub there-found : (v : Worker) (ws : List Worker) (q : ℕ) (w : Worker) → Apart (v ∷ ws) → find ws q ≡ some w → find (v ∷ ws) q ≡ some w
-there-found v ws q w u e = bool-all (λ b. eqb (v .pid) q ≡ b → cond b (some v) (find ws q) ≡ some w) (eqb (v .pid) q) (λ h i. absurd (none-some (sym (subst (λ (z : ℕ). find ws z ≡ none) (eqb-is (v .pid) q h) (u .0)) ∙ e))) (λ h i. e) refl
-or-no : (a b : Bool) → (a || b) ≡ false → (a ≡ false) × (b ≡ false)
-or-no true b e = no-clash refl e
-or-no false b e = (refl, e)
-and-yes : (a b : Bool) → (a && b) ≡ true → (a ≡ true) × (b ≡ true)
-and-yes true b e = (refl, e)
-and-yes false b e = no-clash e refl
-not-yes : (b : Bool) → not b ≡ true → b ≡ false
-not-yes true e = no-clash e refl
-not-yes false e = refl
 pub none-can : (g : Program) (s : System) (ws : List Worker) (n : ℕ) (w : Worker) → any-can g s ws ≡ false → find ws n ≡ some w → can g s w ≡ false
 none-can g s [] n w h e = absurd (none-some e)
 none-can g s (v ∷ ws) n w h e = let z = or-no (can g s v) (any-can g s ws) h in cond-all (λ o. o ≡ some w → can g s w ≡ false) (eqb (v .pid) n) (some v) (find ws n) (λ i d. ap (can g s) (sym (some-is d)) ∙ z .0) (λ i d. none-can g s ws n w (z .1) d) e
 pub one-can : (g : Program) (s : System) (ws : List Worker) → Apart ws → any-can g s ws ≡ true → (n : ℕ) × (w : Worker) × (find ws n ≡ some w) × (can g s w ≡ true)
 one-can g s [] u h = no-clash h refl
 one-can g s (v ∷ ws) u h = bool-all (λ b. can g s v ≡ b → (b || any-can g s ws) ≡ true → (n : ℕ) × (w : Worker) × (find (v ∷ ws) n ≡ some w) × (can g s w ≡ true)) (can g s v)
-  (λ e i d. (v .pid, v, here-found v ws, e)) (λ e i d. let r = one-can g s ws (u .1) d in (r .0, r .1, there-found v ws (r .0) (r .1) u (r .2), r .3)) refl h
+  (λ e i d. (v .pid, v, find-here v ws (v .pid) refl, e)) (λ e i d. let r = one-can g s ws (u .1) d in (r .0, r .1, find-behind v ws (r .0) (r .1) u (r .2), r .3)) refl h
 pub turn-is : (g : Program) (s : System) (n : ℕ) (w : Worker) (o : Outcome) → find (s .workers) n ≡ some w → turn-of g s w ≡ some o → move g s (turn n) ≡ settle n o
 turn-is g s n w o e d = ap (λ (y : Option Worker). opt y not-allowed (λ w. opt (turn-of g s w) not-allowed (settle n))) e ∙ ap (λ (y : Option Outcome). opt y not-allowed (settle n)) d
 can-turn : (o : Option Outcome) → opt o false (λ x. true) ≡ true → (x : Outcome) × (o ≡ some x)
@@ -89,34 +77,9 @@ some-move g gd s sd wf h = bool-all (λ a. no-signals (s .signals) ≡ a → (a 
     time (some t) f = (with-clock s t, cond-true (ltb (s .clock) t) (is (with-clock s t)) not-allowed (is-true (ltb (s .clock) t) (lt→ltb (s .clock) t (nleb→lt t (s .clock) (subst (λ (b : Bool). T (not b)) (sym f) tt)))))
 pub quiet-means : Quiet-means
 quiet-means t g l s rd r = (quiet-still g s, λ h. bool-all (λ b. quiet g s ≡ b → quiet g s ≡ true) (quiet g s) (λ i j. i) (λ i j. let gd = reads-good t g rd in let y = some-move g gd s (reached-sound g l s r) (reached-wf g gd l s r) i in absurd (h (y .0) (y .1) (y .2))) refl)
-
--- the first time for which somebody waits
-pub first-below : (ws : List Worker) (q t : ℕ) (w : Worker) → find ws q ≡ some w → time-of (w .control) ≡ some t → (i : ℕ) × (first-time ws ≡ some i) × (i ≤ t)
-first-below [] q t w e d = absurd (none-some e)
-first-below (v ∷ ws) q t w e d = cond-all (λ o. o ≡ some w → (i : ℕ) × (first-time (v ∷ ws) ≡ some i) × (i ≤ t)) (eqb (v .pid) q) (some v) (find ws q)
-  (λ h f. mine (first-time ws) (ap (λ (z : Worker). time-of (z .control)) (some-is f) ∙ d)) (λ h f. let r = first-below ws q t w f d in theirs (time-of (v .control)) (r .0) (r .1) (r .2)) e
-  where
-    mine : (o : Option ℕ) → time-of (v .control) ≡ some t → (i : ℕ) × (sooner (time-of (v .control)) o ≡ some i) × (i ≤ t)
-    mine none f = (t, ap (λ (z : Option ℕ). sooner z none) f, omega arith)
-    mine (some j) f = (min t j, ap (λ (z : Option ℕ). sooner z (some j)) f, omega arith)
-    theirs : (o : Option ℕ) (i : ℕ) → first-time ws ≡ some i → i ≤ t → (i : ℕ) × (sooner o (first-time ws) ≡ some i) × (i ≤ t)
-    theirs none i f h = (i, f, h)
-    theirs (some j) i f h = (min j i, ap (sooner (some j)) f, omega arith)
-pub first-is : (ws : List Worker) (i : ℕ) → Apart ws → first-time ws ≡ some i → (q : ℕ) × (w : Worker) × (find ws q ≡ some w) × (time-of (w .control) ≡ some i)
-first-is [] i u e = absurd (none-some e)
-first-is (v ∷ ws) i u e = go (λ j d. first-is ws j (u .1) d) (time-of (v .control)) (first-time ws) refl refl e
-  where
-    lift : (j : ℕ) → ((q : ℕ) × (w : Worker) × (find ws q ≡ some w) × (time-of (w .control) ≡ some j)) → (q : ℕ) × (w : Worker) × (find (v ∷ ws) q ≡ some w) × (time-of (w .control) ≡ some j)
-    lift j r = (r .0, r .1, there-found v ws (r .0) (r .1) u (r .2), r .3)
-    go : ((j : ℕ) → first-time ws ≡ some j → (q : ℕ) × (w : Worker) × (find ws q ≡ some w) × (time-of (w .control) ≡ some j)) → (a b : Option ℕ) → time-of (v .control) ≡ a → first-time ws ≡ b → sooner a b ≡ some i → (q : ℕ) × (w : Worker) × (find (v ∷ ws) q ≡ some w) × (time-of (w .control) ≡ some i)
-    go ih none b p q e = lift i (ih i (q ∙ e))
-    go ih (some x) none p q e = (v .pid, v, here-found v ws, p ∙ e)
-    go ih (some x) (some y) p q e = let m : min x y ≡ i = some-is e in bool-all (λ b. leb x y ≡ b → (q : ℕ) × (w : Worker) × (find (v ∷ ws) q ≡ some w) × (time-of (w .control) ≡ some i)) (leb x y)
-      (λ h j. let z = leb→le x y (T-of h) in let xi : x ≡ i = omega arith in (v .pid, v, here-found v ws, p ∙ ap some xi))
-      (λ h j. let z = nleb→lt x y (subst (λ (b : Bool). T (not b)) (sym h) tt) in let yi : y ≡ i = omega arith in lift i (ih i (q ∙ ap some yi))) refl
 pub clock-goes : Clock-goes
 clock-goes g l s q t w r e d later = let a = first-below (s .workers) q t w e d in let b = first-is (s .workers) (a .0) (reached-sound g l s r .apart) (a .1) in let c = later (b .0) (a .0) (b .1) (b .2) (b .3) in
-  (a .0, ap (λ (o : Option ℕ). opt o not-allowed (λ t. cond (ltb (s .clock) t) (is (with-clock s t)) not-allowed)) (a .1) ∙ cond-true (ltb (s .clock) (a .0)) (is (with-clock s (a .0))) not-allowed (is-true (ltb (s .clock) (a .0)) (lt→ltb (s .clock) (a .0) c)), c, a .2)
+  (a .0, tick-is g s (a .0) (a .1) c, c, a .2)
 
 -- who newly can go on
 abbrev Was : System → ℕ → Worker → Type 0

@@ -12,6 +12,10 @@ use Rattle.meaning.specs.Syntax.{Program, Clauses, Body}
 use Rattle.meaning.specs.Values.{Value, Binding}
 use Rattle.meaning.specs.System.{Scope, Until, for-ever, until, Control, eval, give, enter, fail, wait, Frame, Worker, System, on-worker, set-mail}
 use Rattle.meaning.specs.Turns.{Outcome, goes-on, Chosen, choose, Taken, keep-front, take-first, timed-out, turn-with, can, rebind}
+use Rattle.meaning.specs.Moves.{time-of}
+use Rattle.meaning.specs.Fair.{Could}
+use Rattle.meaning.specs.Scheduler.{Due}
+use Rattle.meaning.proofs.Splits.{impossible}
 
 abbrev pub due : ℕ → Until → Bool
 due t for-ever = false
@@ -69,3 +73,17 @@ ready-more t t′ (give v) ms more le h = refl
 ready-more t t′ (enter b w) ms more le h = refl
 ready-more t t′ (fail v) ms more le h = refl
 ready-more t t′ (wait cs u w) ms more le h = opt-more (take-first cs (w .vars) ms) (take-first cs (w .vars) (ms ++ more)) (due t u) (due t′ u) (take-more cs (w .vars) ms more) (due-more t t′ u le) h
+
+ready-due : (t u : ℕ) (c : Control) (ms : List Value) → time-of c ≡ some u → u ≤ t → ready t c ms ≡ true
+ready-due t u (eval e w) ms h l = refl
+ready-due t u (give v) ms h l = refl
+ready-due t u (enter b w) ms h l = refl
+ready-due t u (fail v) ms h l = refl
+ready-due t u (wait cs for-ever w) ms h l = impossible (cc)
+ready-due t u (wait cs (until v b) w) ms h l = go (take-first cs (w .vars) ms)
+  where
+    go : (o : Option Taken) → opt o (due t (until v b)) (λ x. true) ≡ true
+    go none = let e : v ≡ u = cc in le-leb v t (omega arith)
+    go (some x) = refl
+pub due-can : (g : Program) (s : System) (q : ℕ) → Due s q → Could g s q
+due-can g s q (w, u, f, e, l) = (w, f, can-is g s w ∙ ready-due (s .clock) u (w .control) (w .mail) e l)

@@ -14,9 +14,9 @@ use Rattle.meaning.specs.Scheduler.{Entry, Mode, So-far}
 use Rattle.meaning.specs.Rounds.{Budget, Soon, Scheduler-laws}
 use Rattle.meaning.proofs.NeverStuck.{never-stuck}
 use Rattle.meaning.proofs.Actions.{turn-on, turn-back, turn-over, signalled, at-round, time-goes, next-round, popped}
-use Rattle.meaning.proofs.Beginning.{moves-append, so-far-none, one-more, so-far-fair, due-turn}
-use Rattle.meaning.proofs.Scanning.{quiet-now}
-use Rattle.meaning.proofs.Progress.{goes-on-always}
+use Rattle.meaning.proofs.Beginning.{so-far-none, one-more, so-far-fair, due-turn}
+use Rattle.meaning.proofs.Progress.{goes-on-always, quiet-now}
+use Rattle.meaning.proofs.Results.{moves-append}
 
 no-meaning-next : (g : Program) (b s : System) (l : List Move) (m : Mode) (es : List Entry) (n : ℕ) → So-far g b l s m es → move g s (turn n) ≡ no-meaning → moves g b (l ++ (turn n ∷ [])) ≡ no-meaning
 no-meaning-next g b s l m es n a e = moves-append g b l (turn n ∷ []) ∙ ap (λ o. on-is o (λ t. moves g t (turn n ∷ []))) (so-far-fair a .0) ∙ ap (λ o. on-is o (λ t. moves g t [])) e

@@ -2,10 +2,11 @@
 -- All case analysis of computed tests in this crate goes through these.
 use mathlib.Core.Path.{_≡_, refl, sym, subst}
 use mathlib.Core.Logic.{_⊎_, inl, inr}
-use mathlib.Core.Bool.{Bool, true, false, _&&_, cond}
+use mathlib.Core.Bool.{Bool, true, false, _&&_, cond, _||_, not}
 use mathlib.Core.List.{[], _∷_}
 use mathlib.Core.Option.{Option, some, none, Option·none-ne-some}
 use Prim.Native.Nat.{ℕ}
+use native.Mathlib.Omega.{arith}
 use lib.Dec.{eqb, T, eqb→eq, eqb-refl}
 use Rattle.meaning.specs.Basics.{opt, on-some, Name, same}
 
@@ -44,6 +45,9 @@ pub some-is : {A : Type 0} {x y : A} → some x ≡ some y → x ≡ y
 some-is {A} {x} {y} e = cc
 pub none-some : {A : Type 0} {x : A} → none ≡ some x → ⊥
 none-some {A} {x} e = Option·none-ne-some x e
+-- 0 is not 1: how `cc` says that equations contradict each other
+pub impossible : {A : Type 0} → _≡_ {A = ℕ} 0 1 → A
+impossible {A} e = absurd (omega arith)
 
 -- numbers and names compared
 pub eqb-no : (m n : ℕ) → (m ≡ n → ⊥) → eqb m n ≡ false
@@ -77,3 +81,18 @@ on-some-all P R (some x) f h i = i x h
 -- two numbers are equal or not
 pub either : (a b : ℕ) → (a ≡ b) ⊎ (a ≡ b → ⊥)
 either a b = bool-all (λ t. (a ≡ b) ⊎ (a ≡ b → ⊥)) (eqb a b) (λ h. inl (eqb-is a b h)) (λ h. inr (eqb-isnt a b h))
+pub or-no : (a b : Bool) → (a || b) ≡ false → (a ≡ false) × (b ≡ false)
+or-no true b e = no-clash refl e
+or-no false b e = (refl, e)
+pub and-yes : (a b : Bool) → (a && b) ≡ true → (a ≡ true) × (b ≡ true)
+and-yes true b e = (refl, e)
+and-yes false b e = no-clash e refl
+pub not-yes : (b : Bool) → not b ≡ true → b ≡ false
+not-yes true e = no-clash e refl
+not-yes false e = refl
+pub some-or-none : {A : Type 0} (o : Option A) → (o ≡ none) ⊎ ((x : A) × (o ≡ some x))
+some-or-none none = inl refl
+some-or-none (some x) = inr (x, refl)
+pub some-any : {A : Type 0} (o : Option A) → OnSome (λ x. Unit {0}) o
+some-any none = tt
+some-any (some x) = tt

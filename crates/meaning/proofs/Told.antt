@@ -1,8 +1,8 @@
 -- Whoever is linked to a worker that ends is told, behind the signals that were there.
 use mathlib.Core.Path.{_≡_, refl, sym, ap, subst, _∙_}
 use mathlib.Core.Logic.{inl, inr}
-use mathlib.Core.Bool.{true, _||_, cond}
-use mathlib.Core.List.{List, [], _∷_, _++_, append-nil, append-assoc}
+use mathlib.Core.Bool.{true, cond}
+use mathlib.Core.List.{List, [], _∷_, _++_}
 use mathlib.Core.Option.{Option, some, none}
 use Prim.Native.Nat.{ℕ, _+_}
 use lib.Dec.{eqb, ltb}
@@ -10,21 +10,17 @@ use Rattle.meaning.specs.Basics.{Name}
 use Rattle.meaning.specs.Atoms.{a-old, a-normal}
 use Rattle.meaning.specs.Syntax.{Program}
 use Rattle.meaning.specs.Values.{Value, v-atom, sameV}
-use Rattle.meaning.specs.System.{cut-link, Scope, Worker, Signal, System, with-signals, find, change, set-control, set-mail, add-mail, set-traps, among, add-link, gone, told, ended, old, end-old, with-version, with-clock, Apart, swapped}
+use Rattle.meaning.specs.System.{cut-link, Scope, Worker, Signal, System, with-signals, find, change, set-control, set-mail, add-mail, set-traps, among, add-link, gone, told, ended, old, with-version, with-clock, Apart, swapped}
 use Rattle.meaning.specs.Turns.{Outcome}
 use Rattle.meaning.specs.Moves.{Move, turn, signal, tick, is, not-allowed, settle, take-signal, deliver, first-time, move}
-use Rattle.meaning.specs.Promise.{Behind, Linked-told, end-reason, oldest-reason, reason-of, Told-of, this-one, a-later}
+use Rattle.meaning.specs.Promise.{Behind, Linked-told, end-reason, oldest-reason, reason-of, Told-of}
 use Rattle.meaning.specs.Effects.{Effect, nothing, sent, spawned, linked-gone, exited, linked, trapped, showed, named, took, Turned, turn-goes, turn-ends, turn-swaps, turn-swapped-out, turn-stuck}
-use Rattle.meaning.proofs.Splits.{no-clash, cond-all, opt-all, cond-true, bool-all, some-is, none-some, eqb-yes, eqb-is, eqb-isnt}
-use Rattle.meaning.proofs.Finding.{Keeps, find-pid, find-gone-other, find-append-some}
-use Rattle.meaning.proofs.Links.{OnIs, on-is-of, add-link-keeps, SoundS, turn-all}
-use Rattle.meaning.proofs.Alone.{change-found, end-old-spares, reached-sound}
+use Rattle.meaning.proofs.Splits.{cond-all, opt-all, cond-true, bool-all, some-is, none-some, eqb-yes, eqb-is, eqb-isnt}
+use Rattle.meaning.proofs.Finding.{find-pid, find-gone-other, find-append-some, change-stays, change-here}
+use Rattle.meaning.proofs.Links.{add-link-keeps, SoundS, reached-sound}
+use Rattle.meaning.proofs.Results.{OnIs, on-is-of, turn-all}
+use Rattle.meaning.proofs.Swapping.{end-old-spares, end-old-tells, told-waits}
 
--- nobody is gone by a change
-pub change-stays : (ws : List Worker) (n : ℕ) (f : Worker → Worker) → Keeps f → (q : ℕ) (w : Worker) → find ws q ≡ some w → (x : Worker) × (find (change ws n f) q ≡ some x)
-change-stays ws n f kp q w e = let r = change-found ws n f kp q w e in (r .0, r .1)
-change-here : (ws : List Worker) (n : ℕ) (f : Worker → Worker) → Keeps f → (q : ℕ) (w : Worker) → find ws q ≡ some w → find (change ws n f) q ≡ none → ⊥
-change-here ws n f kp q w e d = let r = change-found ws n f kp q w e in none-some (sym d ∙ r .1)
 pub did-stays : (g : Program) (s : System) (v : Scope) (me : ℕ) (t : System) → Effect g s v me t → (q : ℕ) (w : Worker) → find (s .workers) q ≡ some w → (x : Worker) × (find (t .workers) q ≡ some x)
 did-stays g s v me t nothing q w e = (w, e)
 did-stays g s v me t (sent p m) q w e = change-stays (s .workers) p (add-mail m) (λ x. refl) q w e
@@ -36,26 +32,6 @@ did-stays g s v me t (trapped b) q w e = change-stays (s .workers) me (set-traps
 did-stays g s v me t (showed l) q w e = (w, e)
 did-stays g s v me t (named x) q w e = (w, e)
 did-stays g s v me t (took ms) q w e = change-stays (s .workers) me (set-mail ms) (λ x. refl) q w e
-
-told-waits : (p q : ℕ) (r : Value) (ls : List ℕ) → among q ls ≡ true → Told-of q p r (told p r ls)
-told-waits p q r [] a = no-clash a refl
-told-waits p q r (l ∷ ls) a = bool-all (λ b. eqb q l ≡ b → (b || among q ls) ≡ true → Told-of q p r (told p r (l ∷ ls))) (eqb q l)
-  (λ h i d. subst (λ (z : ℕ). Told-of q p r (record { to = z; from = p; reason = r } ∷ told p r ls)) (eqb-is q l h) this-one)
-  (λ h i d. a-later (told-waits p q r ls d)) refl a
-waits-left : (p q : ℕ) (r : Value) (gs hs : List Signal) → Told-of q p r gs → Told-of q p r (gs ++ hs)
-waits-left p q r gs hs this-one = this-one
-waits-left p q r gs hs (a-later {gs = ks} h) = a-later (waits-left p q r ks hs h)
-waits-right : (p q : ℕ) (r : Value) (gs hs : List Signal) → Told-of q p r hs → Told-of q p r (gs ++ hs)
-waits-right p q r [] hs h = h
-waits-right p q r (g ∷ gs) hs h = a-later (waits-right p q r gs hs h)
-pub end-old-tells : (us : List Worker) (x : Name) (n : ℕ) (s : System) → (gs : List Signal) × (end-old us x n s .signals ≡ s .signals ++ gs) × ((p q : ℕ) (w : Worker) → find us p ≡ some w → old x n w ≡ true → among q (w .links) ≡ true → Told-of q p (v-atom a-old) gs)
-end-old-tells [] x n s = ([], sym (append-nil (s .signals)), λ p q w e h a. absurd (none-some e))
-end-old-tells (u ∷ us) x n s = bool-all (λ b. old x n u ≡ b → (gs : List Signal) × (end-old us x n (cond b (ended s u (v-atom a-old)) s) .signals ≡ s .signals ++ gs) × ((p q : ℕ) (w : Worker) → find (u ∷ us) p ≡ some w → old x n w ≡ true → among q (w .links) ≡ true → Told-of q p (v-atom a-old) gs)) (old x n u)
-  (λ h i. let r = end-old-tells us x n (ended s u (v-atom a-old)) in let mine = told (u .pid) (v-atom a-old) (u .links) in
-    (mine ++ r .0, r .1 ∙ append-assoc (s .signals) mine (r .0), λ p q w e o a. cond-all (λ y. y ≡ some w → Told-of q p (v-atom a-old) (mine ++ r .0)) (eqb (u .pid) p) (some u) (find us p)
-      (λ c d. waits-left p q (v-atom a-old) mine (r .0) (subst (λ (z : ℕ). Told-of q p (v-atom a-old) (told z (v-atom a-old) (u .links))) (sym (eqb-is (u .pid) p c)) (told-waits p q (v-atom a-old) (u .links) (ap (λ (z : Worker). among q (z .links)) (some-is d) ∙ a))))
-      (λ c d. waits-right p q (v-atom a-old) mine (r .0) (r .2 p q w d o a)) e))
-  (λ h i. let r = end-old-tells us x n s in (r .0, r .1, λ p q w e o a. cond-all (λ y. y ≡ some w → Told-of q p (v-atom a-old) (r .0)) (eqb (u .pid) p) (some u) (find us p) (λ c d. no-clash o (sym (ap (old x n) (some-is d)) ∙ h)) (λ c d. r .2 p q w d o a) e)) refl
 
 -- D
 abbrev ToldAt : System → ℕ → ℕ → Value → System → Type 0

@@ -16,10 +16,12 @@ use Rattle.meaning.specs.Turns.{Outcome, enter-function}
 use Rattle.meaning.specs.Moves.{Move, turn, signal, tick, Result, is, not-allowed, no-meaning, settle, take-signal, deliver, move, first-versions, first-name}
 use Rattle.meaning.specs.Promise.{Reached, Two-versions, ahead-control, ahead-frame, ahead-frames, None-ahead}
 use Rattle.meaning.specs.Effects.{Effect, nothing, sent, spawned, linked-gone, exited, linked, trapped, showed, named, took, Turned, turn-goes, turn-ends, turn-swaps, turn-swapped-out, turn-stuck}
-use Rattle.meaning.proofs.Splits.{T-of, is-true, is-false, no-clash, cond-all, opt-all, cond-false, bool-all, some-is, none-some, same-is, same-refl, OnSome}
-use Rattle.meaning.proofs.Links.{OnIs, SoundS, gone-sub, turn-all, move-sound}
-use Rattle.meaning.proofs.Alone.{at-first, reached-all, first-sound, end-old-ends, end-old-loaded, current-now}
-use Rattle.meaning.proofs.OwnCode.{HasAll, sub-all, settle-all, soft-all, tick-all, Next, end-old-sub, AllC, AllF, AllK, code-all, turn-versions}
+use Rattle.meaning.proofs.Splits.{T-of, is-false, no-clash, cond-all, opt-all, cond-false, bool-all, some-is, none-some, same-is, same-refl, OnSome, or-no}
+use Rattle.meaning.proofs.Links.{SoundS, move-sound, first-sound}
+use Rattle.meaning.proofs.OwnCode.{HasAll, sub-all, settle-all, soft-all, Next, AllC, AllF, AllK, code-all, turn-versions}
+use Rattle.meaning.proofs.Finding.{gone-sub}
+use Rattle.meaning.proofs.Results.{OnIs, turn-all, tick-all, at-first, reached-all}
+use Rattle.meaning.proofs.Swapping.{end-old-loaded, current-now, spared}
 
 abbrev pub Span : List Loaded → Name → ℕ → Type 0
 Span ls h v = (n : ℕ) → current ls h ≡ some n → (n ≤ v + 1) × (v ≤ n)
@@ -52,9 +54,6 @@ shift : (ls : List Loaded) (x : Name) (m : ℕ) (h : Name) (v : ℕ) → current
 shift ls x m h v e sp o n d = bool-all (λ b. same h x ≡ b → (b && ltb v m) ≡ false → (n ≤ v + 1) × (v ≤ n)) (same h x)
   (λ i j f. let z = same-is h x (T-of i) in let c1 = current-now ls x (m + 1) m e in let c2 : m + 1 ≡ n = some-is (sym c1 ∙ subst (λ (u : Name). current (now-loaded ls x (m + 1)) u ≡ some n) z d) in let lo : m ≤ v = nltb→le v m (subst (λ (b : Bool). T (not b)) (sym f) tt) in let hi = sp m (subst (λ (u : Name). current ls u ≡ some m) (sym z) e) in (omega arith, omega arith))
   (λ i j f. sp n (sym (current-other ls x h (m + 1) i) ∙ d)) refl o
-or-no : (a b : Bool) → (a || b) ≡ false → (a ≡ false) × (b ≡ false)
-or-no true b e = no-clash refl e
-or-no false b e = (refl, e)
 module _ (ls : List Loaded) (x : Name) (m : ℕ) (e : current ls x ≡ some m) where
   shiftC : (c : Control) → AllC (Span ls) c → old-control x m c ≡ false → AllC (Span (now-loaded ls x (m + 1))) c
   shiftC (eval a w) h o = shift ls x m (w .home) (w .version) e h o
@@ -76,9 +75,6 @@ module _ (ls : List Loaded) (x : Name) (m : ℕ) (e : current ls x ≡ some m) w
 
 abbrev pub VerS : System → Type 0
 VerS s = AllSys (Span (s .loaded)) (s .workers)
--- who is there after a swap wasn't old
-spared : (s : System) (x : Name) (m q : ℕ) (y : Worker) → Apart (s .workers) → find (swapped s x m .workers) q ≡ some y → (find (s .workers) q ≡ some y) × (old x m y ≡ false)
-spared s x m q y u e = let f = end-old-sub (s .workers) x m (with-version s x (m + 1)) u q y e in (f, is-false (old x m y) (λ t. none-some (sym (end-old-ends (s .workers) x m (with-version s x (m + 1)) q y u u f (is-true (old x m y) t)) ∙ e)))
 swap-versions : (s : System) (x : Name) (m : ℕ) → Apart (s .workers) → current (s .loaded) x ≡ some m → VerS s → AllSys (Span (now-loaded (s .loaded) x (m + 1))) (swapped s x m .workers)
 swap-versions s x m u e h q y d = let r = spared s x m q y u d in shiftW (s .loaded) x m e y (h q y (r .0)) (r .1)
 now-after : (s : System) (x : Name) (m : ℕ) → current (s .loaded) x ≡ some m → (h : Name) (n : ℕ) → current (s .loaded) h ≡ some n → Span (now-loaded (s .loaded) x (m + 1)) h n

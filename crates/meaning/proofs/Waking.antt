@@ -12,14 +12,28 @@ use Rattle.meaning.specs.Values.{Value, Binding}
 use Rattle.meaning.specs.System.{Until, Control, eval, give, enter, fail, wait, Scope, Worker, System, find, change, on-worker, add-mail, ended, with-new}
 use Rattle.meaning.specs.Turns.{can, take-first, Taken, Chosen, choose, keep-front}
 use Rattle.meaning.specs.Fair.{Could}
-use Rattle.meaning.specs.Scheduler.{Woken, alive, Numbered, Good, next, Entry, round, worker, serve, here, Mem}
-use Rattle.meaning.proofs.Queue.{behind}
+use Rattle.meaning.specs.Scheduler.{Woken, alive, Numbered, Good, next, Entry, worker, serve, here, Mem}
+use Rattle.meaning.proofs.Queue.{behind, could-not-gone, At-none, Mem-cases}
 use Rattle.meaning.proofs.Finding.{find-here, find-there, Keeps, find-change-other, find-changed, find-append-some, find-append-none, find-gone-other}
 use Rattle.meaning.proofs.Ready.{can-is, ready, due, has, has-front}
-use Rattle.meaning.proofs.Past.{some-or-none}
-use Rattle.meaning.proofs.Splits.{either}
-use Rattle.meaning.proofs.Exact.{not-both}
-use Rattle.meaning.proofs.Actions.{woken-none, woken-one, same-could}
+use Rattle.meaning.proofs.Splits.{either, some-or-none, impossible}
+use Rattle.meaning.proofs.Alive.{alive-same}
+
+-- who became able: nobody else, or one
+pub woken-none : (g : Program) (n : ℕ) (s t : System) → ((q : ℕ) → (q ≡ n → ⊥) → Could g t q → Could g s q) → Woken g n s t []
+woken-none g n s t h = record { once = tt; each = λ x m. absurd (At-none (m .1)); all = λ q d c. inl (h q d c) }
+pub woken-one : (g : Program) (n : ℕ) (s t : System) (p : ℕ) → (p ≡ n → ⊥) → Could g t p → (Could g s p → ⊥) → ((q : ℕ) → (q ≡ n → ⊥) → (q ≡ p → ⊥) → Could g t q → Could g s q) → Woken g n s t (worker p ∷ [])
+woken-one g n s t p d c f h = record { once = ((λ m. At-none (m .1)), tt); each = λ x m. one x (Mem-cases m); all = λ q e b. two q e b (either q p) }
+  where
+    one : (x : Entry) → (x ≡ worker p) ⊎ Mem x [] → (q : ℕ) × (x ≡ worker q) × (q ≡ n → ⊥) × Could g t q × (Could g s q → ⊥)
+    one x (inl e) = (p, e, d, c, f)
+    one x (inr m) = absurd (At-none (m .1))
+    two : (q : ℕ) → (q ≡ n → ⊥) → Could g t q → (q ≡ p) ⊎ (q ≡ p → ⊥) → Could g s q ⊎ Mem (worker q) (worker p ∷ [])
+    two q e b (inl y) = inr (subst (λ z. Mem (worker z) (worker p ∷ [])) (sym y) (zero, here))
+    two q e b (inr y) = inl (h q e y b)
+-- whoever is found as before can as before
+pub same-could : (g : Program) (s t : System) (q : ℕ) → t .clock ≡ s .clock → find (t .workers) q ≡ find (s .workers) q → Could g t q → Could g s q
+same-could g s t q e h (w, f, c) = (w, sym h ∙ f, can-is g s w ∙ ap (λ z. ready z (w .control) (w .mail)) (sym e) ∙ sym (can-is g t w) ∙ c)
 
 -- nobody but n is seen changed
 pub woken-same : (g : Program) (n : ℕ) (s t : System) → t .clock ≡ s .clock → ((q : ℕ) → (q ≡ n → ⊥) → find (t .workers) q ≡ find (s .workers) q) → Woken g n s t []
@@ -55,7 +69,7 @@ module _ (g : Program) (n : ℕ) (s : System) (i : Numbered s) (c : Control) (f 
       apart : s .next ≡ n → ⊥
       apart e = omega arith
   pub woken-begun : Woken g n s (on-worker (with-new s c) n f) (worker (s .next) ∷ [])
-  woken-begun = woken-one g n s (on-worker (with-new s c) n f) (s .next) (λ e. apart e) (new, found-new, can-is g (on-worker (with-new s c) n f) new ∙ r) (not-both g s (s .next) (i .1 (s .next) (omega arith))) (λ q a b. same-could g s (on-worker (with-new s c) n f) q refl (find-change-other (s .workers ++ (new ∷ [])) n q f k a ∙ others q b (some-or-none (find (s .workers) q))))
+  woken-begun = woken-one g n s (on-worker (with-new s c) n f) (s .next) (λ e. apart e) (new, found-new, can-is g (on-worker (with-new s c) n f) new ∙ r) (could-not-gone g s (s .next) (i .1 (s .next) (omega arith))) (λ q a b. same-could g s (on-worker (with-new s c) n f) q refl (find-change-other (s .workers ++ (new ∷ [])) n q f k a ∙ others q b (some-or-none (find (s .workers) q))))
     where
       apart : s .next ≡ n → ⊥
       apart e = omega arith
@@ -90,20 +104,10 @@ mail-wakes t cs u w ms v h = go (take-first cs (w .vars) (ms ++ (v ∷ []))) (wa
     go (some x) e = refl
 pub time-wakes : (t t′ : ℕ) (cs : Clauses) (u : Until) (w : Scope) (ms : List Value) → ready t (wait cs u w) ms ≡ false → ready t′ (wait cs u w) ms ≡ due t′ u
 time-wakes t t′ cs u w ms h = ap (λ o. opt o (due t′ u) (λ x. true)) (has-none (take-first cs (w .vars) ms) (waits-not (take-first cs (w .vars) ms) (due t u) h .0))
-
--- nobody in the queue ends: the queue stays as it is
-pub alive-same : (t : System) (es : List Entry) → ((q : ℕ) → Mem (worker q) es → find (t .workers) q ≡ none → ⊥) → alive t es ≡ es
-alive-same t [] h = refl
-alive-same t (round ∷ es) h = ap (λ z. round ∷ z) (alive-same t es (λ q m. h q (behind round m)))
-alive-same t (worker p ∷ es) h = go (find (t .workers) p) refl (alive-same t es (λ q m. h q (behind (worker p) m)))
-  where
-    go : (o : Option Worker) → find (t .workers) p ≡ o → alive t es ≡ es → opt o (alive t es) (λ w. worker p ∷ alive t es) ≡ worker p ∷ es
-    go none e ih = absurd (h p (zero, here) e)
-    go (some w) e ih = ap (λ z. worker p ∷ z) ih
 abbrev pub Spares : ℕ → System → System → Type 0
 Spares n s t = (q : ℕ) (w : Worker) → (q ≡ n → ⊥) → find (s .workers) q ≡ some w → find (t .workers) q ≡ none → ⊥
 clash : {A : Type 0} {a : A} {o : Option A} → o ≡ some a → o ≡ none → ⊥
-clash p q = let z : _≡_ {A = ℕ} 0 1 = cc in omega arith
+clash p q = impossible (cc)
 pub spares-own : (n : ℕ) (s : System) (f : Worker → Worker) → Keeps f → Spares n s (on-worker s n f)
 spares-own n s f k q w d h e = clash h (sym (find-change-other (s .workers) n q f k d) ∙ e)
 pub spares-end : (s : System) (me : Worker) (r : Value) → Spares (me .pid) s (ended s me r)
@@ -123,10 +127,10 @@ queue-same g s t n k es i sp = alive-same t es (λ q m e. let c = i .exact .able
 
 -- who can't go on waits
 pub idle-waits : (t : ℕ) (c : Control) (ms : List Value) → ready t c ms ≡ false → (cs : Clauses) × (u : Until) × (w : Scope) × (c ≡ wait cs u w)
-idle-waits t (eval e w) ms h = let z : _≡_ {A = ℕ} 0 1 = cc in absurd (omega arith)
-idle-waits t (give v) ms h = let z : _≡_ {A = ℕ} 0 1 = cc in absurd (omega arith)
-idle-waits t (enter b w) ms h = let z : _≡_ {A = ℕ} 0 1 = cc in absurd (omega arith)
-idle-waits t (fail v) ms h = let z : _≡_ {A = ℕ} 0 1 = cc in absurd (omega arith)
+idle-waits t (eval e w) ms h = impossible (cc)
+idle-waits t (give v) ms h = impossible (cc)
+idle-waits t (enter b w) ms h = impossible (cc)
+idle-waits t (fail v) ms h = impossible (cc)
 idle-waits t (wait cs u w) ms h = (cs, u, w, refl)
 -- a message to one that can't go on: it can if a clause matches that message, and else it still can't
 module _ (g : Program) (n : ℕ) (s : System) (p : ℕ) (v : Value) (f : Worker → Worker) (k : Keeps f) (w : Worker) (d : p ≡ n → ⊥) (e : find (s .workers) p ≡ some w) (idle : Could g s p → ⊥) (cs : Clauses) (u : Until) (o : Scope) (h : w .control ≡ wait cs u o) where
@@ -144,4 +148,4 @@ module _ (g : Program) (n : ℕ) (s : System) (p : ℕ) (v : Value) (f : Worker 
   send-wakes-not y = woken-not g n s p v f k (inr (λ c. absurd (no-more c)))
     where
       no-more : Could g (sent s n p v f) p → ⊥
-      no-more (x, a, b) = let j : add-mail v w ≡ x = cc (sent-to g n s p v f k w d e) in let r : can g (sent s n p v f) (add-mail v w) ≡ true = ap (can g (sent s n p v f)) j ∙ b in let z : _≡_ {A = ℕ} 0 1 = cc can-then in omega arith
+      no-more (x, a, b) = let j : add-mail v w ≡ x = cc (sent-to g n s p v f k w d e) in let r : can g (sent s n p v f) (add-mail v w) ≡ true = ap (can g (sent s n p v f)) j ∙ b in impossible (cc can-then)
