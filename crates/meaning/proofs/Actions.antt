@@ -15,9 +15,10 @@ use Rattle.meaning.proofs.Queue.{At-none, Mem-cases, behind, could-not-gone, M
 use Rattle.meaning.proofs.Ready.{due-can}
 use Rattle.meaning.proofs.Past.{More, More-same, Now, Past, after-turn, after-signal}
 use Rattle.meaning.proofs.Splits.{either, some-or-none, impossible}
-use Rattle.meaning.proofs.Exact.{still, keeps, go-on, over, back, ticked, now-all}
+use Rattle.meaning.proofs.Exact.{go-on, over, back, ticked, now-all}
 use Rattle.meaning.proofs.Times.{first-none, first-is, tick-is}
 use Rattle.meaning.proofs.Alive.{alive-kept, alive-not}
+use Rattle.meaning.proofs.Able.{still, keeps}
 
 -- whose time has come after a turn of n or a signal, its time had come before
 due-before : (n : ℕ) (s t : System) → Past n s t → (q : ℕ) → (q ≡ n → ⊥) → Due t q → Due s q

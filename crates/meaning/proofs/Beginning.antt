@@ -7,22 +7,22 @@ use mathlib.Core.Option.{Option, some, none}
 use Prim.Native.Nat.{ℕ, zero, _≤_}
 use native.Mathlib.Omega.{arith}
 use lib.Dec.{leb}
-use lib.ListN.{length}
-use Rattle.meaning.specs.Basics.{opt, Name, on-some}
+use Rattle.meaning.specs.Basics.{opt}
 use Rattle.meaning.specs.Atoms.{a-main}
-use Rattle.meaning.specs.Syntax.{Program, Function}
+use Rattle.meaning.specs.Syntax.{Program}
 use Rattle.meaning.specs.Values.{Value}
-use Rattle.meaning.specs.System.{for-ever, until, Control, eval, give, enter, fail, wait, Worker, System, find, on-worker, set-control, set-mail, functions-of, function-of}
-use Rattle.meaning.specs.Turns.{Outcome, goes-on, leaves, stuck, turn-of, turn-with, timed-out, rebind, take-first, Taken, enter-function, bind-params}
-use Rattle.meaning.specs.Moves.{settle, Move, turn, is, not-allowed, move, on-is, moves, time-of, begin, first-name, first-versions}
+use Rattle.meaning.specs.System.{for-ever, until, Control, eval, give, enter, fail, wait, Worker, System, find, on-worker, set-control, set-mail}
+use Rattle.meaning.specs.Turns.{Outcome, goes-on, leaves, stuck, turn-of, turn-with, timed-out, rebind, take-first, Taken, enter-function}
+use Rattle.meaning.specs.Moves.{settle, Move, turn, is, not-allowed, move, on-is, moves, time-of, begin, first-name}
 use Rattle.meaning.specs.Fair.{Could, Fair}
-use Rattle.meaning.specs.Scheduler.{Good, Due, first, next, So-far, Entry, round, worker, Mode, flush, here, Mem, Step, by-turn, by-signal, by-tick, by-round, by-pop, Steps, start, and-step}
+use Rattle.meaning.specs.Scheduler.{Good, Due, first, So-far, Entry, round, worker, Mode, flush, here, Mem, Step, by-turn, by-signal, by-tick, by-round, by-pop, Steps, start, and-step}
 use Rattle.meaning.proofs.Queue.{At-none, Mem-cases, behind}
 use Rattle.meaning.proofs.Finding.{find-here, find-there, find-changed, find-pid, only}
 use Rattle.meaning.proofs.Fairness.{fair-always}
 use Rattle.meaning.proofs.Ready.{can-is, ready}
-use Rattle.meaning.proofs.Results.{moves-append}
+use Rattle.meaning.proofs.Results.{moves-append, begin-all, at-first, first-worker, turn-found}
 use Rattle.meaning.proofs.Splits.{impossible}
+use Rattle.meaning.proofs.Effects.{entered-is}
 
 step-moves : {g : Program} {s s′ : System} {m m′ : Mode} {es es′ : List Entry} {x : List Move} → Step g s m es x s′ m′ es′ → moves g s x ≡ is s′
 step-moves (by-turn new e k a) = ap (λ o. on-is o (λ t. is t)) e
@@ -38,24 +38,7 @@ pub one-more : {g : Program} {b : System} {l x : List Move} {s s′ : System} {m
 one-more a (st, i) = record { steps = and-step (a .steps) st (i .exact); first = a .first; good = i }
 pub so-far-fair : {g : Program} {b : System} {l : List Move} {s : System} {m : Mode} {es : List Entry} → So-far g b l s m es → (moves g b l ≡ is s) × Fair g b l × ((x : Move) → Fair g b (l ++ (x ∷ [])))
 so-far-fair {g} {b} {l} {s} {m} {es} a = let h = fair-always g b s (flush 0) m (worker 0 ∷ round ∷ []) es l (a .first .exact) (a .steps) in (steps-moves (a .steps), h .0, h .1)
-
-abbrev Begun : Option Control → Type 0
-Begun none = Unit {0}
-Begun (some c) = (time-of c ≡ none) × ((t : ℕ) (ms : List Value) → ready t c ms ≡ true)
-begun-code : (g : Program) (m : Name) (v : ℕ) (f : Name) (vs : List Value) → Begun (enter-function g m v f vs)
-begun-code g m v f vs = one (functions-of g m v)
-  where
-    two : (o : Option Function) → Begun (on-some o (λ fn. some (enter (fn .body) (record { vars = bind-params (fn .params) vs; home = m; version = v }))))
-    two none = tt
-    two (some fn) = (refl, λ t ms. refl)
-    one : (o : Option (List Function)) → Begun (on-some o (λ fs. on-some (function-of fs f (length vs)) (λ fn. some (enter (fn .body) (record { vars = bind-params (fn .params) vs; home = m; version = v })))))
-    one none = tt
-    one (some fs) = two (function-of fs f (length vs))
-abbrev first-worker : Control → Worker
-first-worker c = record { pid = 0; control = c; frames = []; mail = []; links = []; traps = false }
-abbrev first-sys : Program → Control → System
-first-sys g c = record { workers = first-worker c ∷ []; next = 1; clock = 0; loaded = first-versions g []; names = []; signals = []; shown = [] }
-first-good : (g : Program) (c : Control) → (time-of c ≡ none) × ((t : ℕ) (ms : List Value) → ready t c ms ≡ true) → Good g (first-sys g c) (flush 0) (worker 0 ∷ round ∷ [])
+first-good : (g : Program) (c : Control) → (time-of c ≡ none) × ((t : ℕ) (ms : List Value) → ready t c ms ≡ true) → Good g (at-first g c) (flush 0) (worker 0 ∷ round ∷ [])
 first-good g c (young, ready-c) = record { numbered = ((refl, tt), λ q l. find-there (first-worker c) [] q (λ e. low q l e)); exact = record { once = ((λ m. one (Mem-cases m)), ((λ m. At-none (m .1)), tt)); able = λ p m. two p (Mem-cases m); all = λ p d. subst (λ z. Mem (worker z) (worker 0 ∷ round ∷ [])) (only (first-worker c) (d .0) p (d .1) .0) (zero, here); rounds = behind (worker 0) (zero, here); small = omega arith }; timely = λ q d. absurd (never q d) }
   where
     low : (q : ℕ) → 1 ≤ q → 0 ≡ q → ⊥
@@ -66,17 +49,16 @@ first-good g c (young, ready-c) = record { numbered = ((refl, tt), λ q l. find-
     three : (p : ℕ) → (worker p ≡ round) ⊎ Mem (worker p) [] → ⊥
     three p (inl e) = impossible (cc)
     three p (inr m) = At-none (m .1)
-    two : (p : ℕ) → (worker p ≡ worker 0) ⊎ Mem (worker p) (round ∷ []) → Could g (first-sys g c) p
-    two p (inl e) = let y : 0 ≡ p = cc in (first-worker c, find-here (first-worker c) [] p y, can-is g (first-sys g c) (first-worker c) ∙ ready-c 0 [])
+    two : (p : ℕ) → (worker p ≡ worker 0) ⊎ Mem (worker p) (round ∷ []) → Could g (at-first g c) p
+    two p (inl e) = let y : 0 ≡ p = cc in (first-worker c, find-here (first-worker c) [] p y, can-is g (at-first g c) (first-worker c) ∙ ready-c 0 [])
     two p (inr m) = absurd (three p (Mem-cases m))
-    never : (q : ℕ) → Due (first-sys g c) q → ⊥
+    never : (q : ℕ) → Due (at-first g c) q → ⊥
     never q (x, u, f, e, l) = let y = only (first-worker c) x q f .1 in impossible (cc)
 pub so-far-none : (g : Program) (b : System) → begin g ≡ some b → So-far g b [] b (flush 0) (worker 0 ∷ round ∷ [])
-so-far-none g b h = go (enter-function g (first-name g) 1 a-main []) (begun-code g (first-name g) 1 a-main []) h
+so-far-none g b h = begin-all g (λ z. So-far g z [] z (flush 0) (worker 0 ∷ round ∷ [])) (λ c e. let i = first-good g c (begun c e) in record { steps = start; first = i; good = i }) b h
   where
-    go : (o : Option Control) → Begun o → on-some o (λ c. some (first-sys g c)) ≡ some b → So-far g b [] b (flush 0) (worker 0 ∷ round ∷ [])
-    go none y e = impossible (cc)
-    go (some c) y e = let d : first-sys g c ≡ b = cc in let i = subst (λ z. Good g z (flush 0) (worker 0 ∷ round ∷ [])) d (first-good g c y) in record { steps = start; first = i; good = i }
+    begun : (c : Control) → enter-function g (first-name g) 1 a-main [] ≡ some c → (time-of c ≡ none) × ((t : ℕ) (ms : List Value) → ready t c ms ≡ true)
+    begun c e = let d = entered-is g (first-name g) 1 a-main [] c e .4 in (subst (λ (z : Control). time-of z ≡ none) d refl, λ t ms. subst (λ (z : Control). ready t z ms ≡ true) d refl)
 
 -- whose time has come is past it with its next turn: so one turn more ends a slice
 abbrev Fine : ℕ → Option Outcome → Type 0
@@ -99,7 +81,7 @@ fine-turn g s w (wait cs (until v b) z) u f h = go (take-first cs (z .vars) (w .
     go none = time (leb v (s .clock))
     go (some t) = (refl, (set-mail (t .rest) w, find-changed (s .workers) (w .pid) (set-mail (t .rest)) w (λ x. refl) f))
 pub due-turn : (g : Program) (s t : System) (n : ℕ) → Due s n → move g s (turn n) ≡ is t → Due t n → ⊥
-due-turn g s t n (w, u, f, e, l) h (x, v, f′, e′, l′) = inner (turn-of g s w) (subst (λ z. Fine z (turn-of g s w)) pid (fine-turn g s w (w .control) u (subst (λ z. find (s .workers) z ≡ some w) (sym pid) f) e)) (sym (ap (λ o. opt o not-allowed (λ y. opt (turn-of g s y) not-allowed (settle n))) f) ∙ h)
+due-turn g s t n (w, u, f, e, l) h (x, v, f′, e′, l′) = inner (turn-of g s w) (subst (λ z. Fine z (turn-of g s w)) pid (fine-turn g s w (w .control) u (subst (λ z. find (s .workers) z ≡ some w) (sym pid) f) e)) (sym (turn-found g s n w f) ∙ h)
   where
     pid : w .pid ≡ n
     pid = find-pid (s .workers) n w f

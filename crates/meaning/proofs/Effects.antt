@@ -4,20 +4,20 @@ use mathlib.Core.Path.{_≡_, refl, sym, ap}
 use mathlib.Core.Bool.{not, cond}
 use mathlib.Core.List.{List, [], _∷_, _++_}
 use mathlib.Core.Option.{Option, some, none}
-use Prim.Native.Nat.{ℕ, _+_}
+use Prim.Native.Nat.{ℕ, _+_, _≤_}
 use native.Mathlib.Omega.{arith}
 use lib.ListN.{length}
 use lib.IntN.{ℤ, pos, negsuc, _+ℤ_, _-ℤ_, _*ℤ_}
 use lib.Dec.{eqb, leb}
 use Rattle.meaning.specs.Basics.{opt, Name}
 use Rattle.meaning.specs.Atoms.{a-type, a-match, a-clause, a-zero, a-big, a-undef, a-normal, a-old, a-ok, a-error, a-none, a-true}
-use Rattle.meaning.specs.Syntax.{Operator, plus, minus, times, divide, modulo, equal, unequal, less, at-most, Builtin, send, self, link, exit, trap, show, register, whereis, swap, Operation, make-tuple, make-pair, call, far-call, spawn, far-spawn, operate, built-in, Expr, int, atom, var, nil, apply, case, receive, receive-until, catch, Exprs, no-e, and-e, Body, last, bind, Clauses, Program}
+use Rattle.meaning.specs.Syntax.{Operator, plus, minus, times, divide, modulo, equal, unequal, less, at-most, Builtin, send, self, link, exit, trap, show, register, whereis, swap, Operation, make-tuple, make-pair, call, far-call, spawn, far-spawn, operate, built-in, Expr, int, atom, var, nil, apply, case, receive, receive-until, catch, Exprs, no-e, and-e, Body, last, bind, Clauses, Program, Function}
 use Rattle.meaning.specs.Values.{Value, v-int, v-atom, v-tuple, v-nil, v-cons, v-pid, as-int, as-atom, as-pid, sameV, less-int, tuple, look-up, match, textV, fits, quotient, remainder, is-zero}
-use Rattle.meaning.specs.System.{Scope, Until, for-ever, until, Control, eval, give, enter, fail, wait, Frame, operands-frame, bind-frame, case-frame, until-frame, catch-frame, Worker, System, with-signals, with-name, find, on-worker, set-mail, add-mail, current, functions-of, pid-of, swapped}
-use Rattle.meaning.specs.Turns.{Outcome, goes-on, leaves, stuck, error, gives, pair, truth, choose, take-first, rebind, enter-function, enter-current, call-code, spawn-code, number, on-numbers, divided, operate-on, target, link-found, link-to, after-swap, swap-module, with-none, with-one, with-two, call-builtin, on-two, perform, operands, evaluate, begin-body, wait-until, resume, unwind, timed-out, turn-with, turn-of}
+use Rattle.meaning.specs.System.{Scope, Until, for-ever, until, Control, eval, give, enter, fail, wait, Frame, operands-frame, bind-frame, case-frame, until-frame, catch-frame, Worker, System, with-signals, with-name, find, on-worker, set-mail, add-mail, current, functions-of, pid-of, swapped, function-of}
+use Rattle.meaning.specs.Turns.{Outcome, goes-on, leaves, stuck, error, gives, pair, truth, choose, take-first, rebind, enter-function, enter-current, call-code, spawn-code, number, on-numbers, divided, operate-on, target, link-found, link-to, after-swap, swap-module, with-none, with-one, with-two, call-builtin, on-two, perform, operands, evaluate, begin-body, wait-until, resume, unwind, timed-out, turn-with, turn-of, bind-params}
 use Rattle.meaning.specs.Promise.{end-reason}
 use Rattle.meaning.specs.Effects.{From, own, other, Effect, nothing, took, spawned, showed, sent, linked, linked-gone, exited, trapped, named, Turned, turn-goes, turn-ends, turn-swaps, turn-swapped-out, turn-stuck}
-use Rattle.meaning.proofs.Splits.{cond-all, opt-all, eqb-isnt, OnSome, on-some-is}
+use Rattle.meaning.proofs.Splits.{cond-all, opt-all, eqb-isnt, OnSome, on-some-is, some-is}
 
 -- how many operands an operation takes
 abbrev pub Arity : Operation → ℕ → Type 0
@@ -193,3 +193,18 @@ module _ (g : Program) (s : System) (me : Worker) where
   turned-with (wait cs u w) i = opt-all (OnSome (Turned g s me)) (take-first cs (w .vars) (me .mail)) (timed-out s (me .frames) u w) (λ t. some (goes-on (enter (t .chosen .body) (rebind w (t .chosen .vars))) (me .frames) (on-worker s (me .pid) (set-mail (t .rest))))) (λ h. turned-timed-out u w) (λ t h. turn-goes (enter (t .chosen .body) (rebind w (t .chosen .vars))) (me .frames) w (took (t .rest)))
   pub turn-view : OnSome (Turned g s me) (turn-of g s me)
   turn-view = turned-with (me .control) refl
+-- code that begins is the body of a function, in the module and version asked for
+pub entered-is : (g : Program) (m : Name) (n : ℕ) (f : Name) (vs : List Value) (c : Control) → enter-function g m n f vs ≡ some c → (fs : List Function) × (fn : Function) × (functions-of g m n ≡ some fs) × (function-of fs f (length vs) ≡ some fn) × (enter (fn .body) (record { vars = bind-params (fn .params) vs; home = m; version = n }) ≡ c)
+entered-is g m n f vs c e = let r = on-some-is (functions-of g m n) _ c e in let o = on-some-is (function-of (r .0) f (length vs)) _ c (r .2) in (r .0, o .0, r .1, o .1, some-is (o .2))
+-- an effect loads nothing, and gives out at most one number
+pub effect-bounds : (g : Program) (s : System) (w : Scope) (me : ℕ) (t : System) → Effect g s w me t → (t .loaded ≡ s .loaded) × (t .next ≤ s .next + 1)
+effect-bounds g s w me t nothing = (refl, omega arith)
+effect-bounds g s w me t (took ms) = (refl, omega arith)
+effect-bounds g s w me t (spawned c f) = (refl, omega arith)
+effect-bounds g s w me t (showed l) = (refl, omega arith)
+effect-bounds g s w me t (sent q v) = (refl, omega arith)
+effect-bounds g s w me t (linked q x d f) = (refl, omega arith)
+effect-bounds g s w me t (linked-gone p d f) = (refl, omega arith)
+effect-bounds g s w me t (exited p r) = (refl, omega arith)
+effect-bounds g s w me t (trapped b) = (refl, omega arith)
+effect-bounds g s w me t (named x) = (refl, omega arith)

@@ -1,28 +1,15 @@
 -- The queue after a move is exact again, if those that became able are put at its end.
-use mathlib.Core.Path.{_≡_, refl, sym, ap, subst, _∙_}
+use mathlib.Core.Path.{_≡_, refl, sym, subst}
 use mathlib.Core.Logic.{_⊎_, inl, inr}
-use mathlib.Core.Bool.{true}
 use mathlib.Core.List.{List, [], _∷_, _++_, append-assoc}
-use mathlib.Core.Option.{Option, some, none}
+use mathlib.Core.Option.{none}
 use Prim.Native.Nat.{ℕ, zero, _≤_}
-use native.Mathlib.Omega.{arith}
 use Rattle.meaning.specs.Syntax.{Program}
-use Rattle.meaning.specs.System.{Worker, System, find}
-use Rattle.meaning.specs.Turns.{can}
+use Rattle.meaning.specs.System.{System, find}
 use Rattle.meaning.specs.Fair.{Could}
 use Rattle.meaning.specs.Scheduler.{Woken, Entry, round, worker, serve, flush, slice, batch, At, here, Mem, Distinct, Kept, Queues}
 use Rattle.meaning.proofs.Queue.{At-none, Mem-cases, behind, Mem-right, Mem-split, Distinct-append, Mem-left, kept-from, kept-distinct, kept-mem, could-not-gone}
-use Rattle.meaning.proofs.Ready.{can-is, ready, ready-more}
-use Rattle.meaning.proofs.Past.{Now, Past}
 use Rattle.meaning.proofs.Splits.{either, impossible}
-
--- who can go on still can, or is no more
-module _ (g : Program) (s t : System) where
-  pub still : (q : ℕ) (w : Worker) (o : Option Worker) → s .clock ≤ t .clock → can g s w ≡ true → Now w o → find (t .workers) q ≡ o → Could g t q ⊎ (find (t .workers) q ≡ none)
-  still q w none le c y e = inr e
-  still q w (some x) le c (a, (ms, b)) e = inl (x, e, can-is g t x ∙ ap (λ z. ready (t .clock) z (x .mail)) a ∙ ap (λ z. ready (t .clock) (w .control) z) b ∙ ready-more (s .clock) (t .clock) (w .control) (w .mail) ms le (sym (can-is g s w) ∙ c))
-  pub keeps : (n q : ℕ) → Past n s t → (q ≡ n → ⊥) → Could g s q → Could g t q ⊎ (find (t .workers) q ≡ none)
-  keeps n q p d (w, f, c) = let e = p .clock in still q w (find (t .workers) q) (omega arith) c (p .others q w d f) refl
 
 module _ (g : Program) (s t : System) (n : ℕ) (keeps′ : (q : ℕ) → (q ≡ n → ⊥) → Could g s q → Could g t q ⊎ (find (t .workers) q ≡ none)) (es fs new : List Entry) (kept : Kept t es fs) (not-dead : (q : ℕ) → Mem (worker q) fs → find (t .workers) q ≡ none → ⊥) (w : Woken g n s t new)
     (once : Distinct (worker n ∷ es)) (able : (q : ℕ) → Mem (worker q) es → Could g s q) (all : (q : ℕ) → Could g s q → Mem (worker q) (worker n ∷ es)) where

@@ -4,21 +4,21 @@ use mathlib.Core.Logic.{_⊎_, inl, inr}
 use mathlib.Core.Bool.{Bool, true, false, _||_, cond}
 use mathlib.Core.List.{List, [], _∷_, _++_}
 use mathlib.Core.Option.{Option, some, none}
-use Prim.Native.Nat.{ℕ, _+_, _<_}
+use Prim.Native.Nat.{ℕ, _+_, _<_, _≤_}
 use native.Mathlib.Omega.{arith}
-use lib.Dec.{eqb, ltb}
+use lib.Dec.{eqb}
 use Rattle.meaning.specs.Basics.{Name}
-use Rattle.meaning.specs.Atoms.{a-old, a-normal}
 use Rattle.meaning.specs.Syntax.{Program}
-use Rattle.meaning.specs.Values.{v-atom, sameV}
-use Rattle.meaning.specs.System.{cut-link, Scope, Control, Frame, Worker, Signal, System, with-signals, find, change, on-worker, set-control, set-mail, add-mail, set-links, set-traps, among, without, add-link, gone, ended, old, end-old, with-version, with-clock, Apart, swapped}
+use Rattle.meaning.specs.System.{cut-link, Scope, Control, Frame, Worker, Signal, System, with-signals, find, change, on-worker, set-control, set-mail, add-mail, set-links, set-traps, among, without, add-link, gone, Apart, swapped}
 use Rattle.meaning.specs.Turns.{Outcome}
-use Rattle.meaning.specs.Moves.{Move, turn, signal, tick, is, not-allowed, settle, take-signal, deliver, first-time, move}
+use Rattle.meaning.specs.Moves.{Move, turn, signal, tick, settle, take-signal, move}
 use Rattle.meaning.specs.Promise.{Reached, Links-both}
 use Rattle.meaning.specs.Effects.{Effect, nothing, sent, spawned, linked-gone, exited, linked, trapped, showed, named, took, Turned, turn-goes, turn-ends, turn-swaps, turn-swapped-out, turn-stuck}
-use Rattle.meaning.proofs.Splits.{no-clash, cond-all, opt-all, bool-all, some-is, none-some, eqb-no, eqb-yes, eqb-is}
-use Rattle.meaning.proofs.Finding.{Keeps, apart-change, apart-gone, apart-new, Sub, back, gone-sub, new-back}
-use Rattle.meaning.proofs.Results.{OnIs, turn-all, reached-all, at-first}
+use Rattle.meaning.specs.Scheduler.{Numbered}
+use Rattle.meaning.proofs.Splits.{no-clash, cond-all, bool-all, eqb-no, eqb-yes, eqb-is}
+use Rattle.meaning.proofs.Finding.{Keeps, apart-change, apart-gone, apart-new, Sub, back, gone-sub, new-back, only}
+use Rattle.meaning.proofs.Results.{OnIs, turn-all, reached-all, at-first, take-signal-all, deliver-all, tick-all, first-worker}
+use Rattle.meaning.proofs.Swapping.{swapped-all}
 
 -- membership
 pub among-add : (l x : ℕ) (ls : List ℕ) → among l (ls ++ (x ∷ [])) ≡ (among l ls || eqb l x)
@@ -53,6 +53,15 @@ pub record Sound (ws : List Worker) (next : ℕ) : Type 0 where
   pub both : (p q : ℕ) (x y : Worker) → find ws p ≡ some x → find ws q ≡ some y → among q (x .links) ≡ true → among p (y .links) ≡ true
 abbrev pub SoundS : System → Type 0
 SoundS s = Sound (s .workers) (s .next)
+-- nobody has the next number, or a later one
+pub sound-free : (ws : List Worker) (k : ℕ) → Sound ws k → (q : ℕ) → k ≤ q → find ws q ≡ none
+sound-free ws k h q l = go (find ws q) refl
+  where
+    go : (o : Option Worker) → find ws q ≡ o → find ws q ≡ none
+    go none e = e
+    go (some x) e = let z = h .below q x e in absurd (omega arith)
+pub sound-numbered : (s : System) → SoundS s → Numbered s
+sound-numbered s h = (h .apart, sound-free (s .workers) (s .next) h)
 pub same-links : (ws : List Worker) (n k : ℕ) (f : Worker → Worker) → Keeps f → ((w : Worker) → f w .links ≡ w .links) → Sound ws k → Sound (change ws n f) k
 same-links ws n k f kp kl h = record {
     apart = apart-change ws n f kp (h .apart);
@@ -79,11 +88,7 @@ new-sound ws k v p n h = record {
     both = λ q r x y e d a. elim (was q x e) [ inl b ↦ elim (was r y d) [ inl c ↦ h .both q r x y b c a | inr c ↦ let z = h .links-below q r x b a in let z2 = c .0 in absurd (omega arith) ] | inr b ↦ absurd (no-links r x (b .1) a) ] }
   where
     free : find ws k ≡ none
-    free = go (find ws k) refl
-      where
-        go : (o : Option Worker) → find ws k ≡ o → find ws k ≡ none
-        go none e = e
-        go (some x) e = let z = h .below k x e in absurd (omega arith)
+    free = sound-free ws k h k (omega arith)
     no-links : (l : ℕ) (x : Worker) → x ≡ v → among l (x .links) ≡ true → ⊥
     no-links l x e a = no-clash a (ap (λ (z : Worker). among l (z .links)) e ∙ ap (among l) n)
     was : (q : ℕ) (x : Worker) → find (ws ++ (v ∷ [])) q ≡ some x → (find ws q ≡ some x) ⊎ ((q ≡ k) × (x ≡ v))
@@ -137,36 +142,31 @@ did-sound g s w me u t e (trapped b) h = same-links (s .workers) me (s .next) (s
 did-sound g s w me u t e (showed l) h = h
 did-sound g s w me u t e (named x) h = h
 did-sound g s w me u t e (took ms) h = same-links (s .workers) me (s .next) (set-mail ms) (λ x. refl) (λ x. refl) h
-pub end-old-sound : (us : List Worker) (x : Name) (n : ℕ) (s : System) → SoundS s → SoundS (end-old us x n s)
-end-old-sound [] x n s h = h
-end-old-sound (u ∷ us) x n s h = end-old-sound us x n (cond (old x n u) (ended s u (v-atom a-old)) s) (cond-all SoundS (old x n u) (ended s u (v-atom a-old)) s (λ e. gone-sound (s .workers) (u .pid) (s .next) h) (λ e. h))
+pub swapped-sound : (s : System) (x : Name) (n : ℕ) → SoundS s → SoundS (swapped s x n)
+swapped-sound s x n h = swapped-all SoundS (λ t w i. gone-sound (t .workers) (w .pid) (t .next) i) s x n h
 pub set-sound : (s : System) (n : ℕ) (c : Control) (k : List Frame) → SoundS s → SoundS (on-worker s n (set-control c k))
 set-sound s n c k h = same-links (s .workers) n (s .next) (set-control c k) (λ x. refl) (λ x. refl) h
 turned-sound : (g : Program) (s : System) (n : ℕ) (me : Worker) (o : Outcome) → find (s .workers) (me .pid) ≡ some me → Turned g s me o → SoundS s → OnIs SoundS (settle n o)
 turned-sound g s n me o e (turn-goes c k w {t} d) h = set-sound t n c k (did-sound g s w (me .pid) me t e d h)
 turned-sound g s n me o e (turn-ends r why) h = gone-sound (s .workers) (me .pid) (s .next) h
-turned-sound g s n me o e (turn-swaps c k x m y d f wo) h = set-sound (swapped s x m) n c k (end-old-sound (s .workers) x m (with-version s x (m + 1)) h)
-turned-sound g s n me o e (turn-swapped-out x m d f wo) h = end-old-sound (s .workers) x m (with-version s x (m + 1)) h
+turned-sound g s n me o e (turn-swaps c k x m y d f wo) h = set-sound (swapped s x m) n c k (swapped-sound s x m h)
+turned-sound g s n me o e (turn-swapped-out x m d f wo) h = swapped-sound s x m h
 turned-sound g s n me o e turn-stuck h = tt
 soft-sound : (s : System) (g : Signal) (w : Worker) → SoundS s → SoundS (take-signal s g w)
-soft-sound s g w h = cond-all SoundS (w .traps) _ _ (λ e. same-links (s .workers) (w .pid) (s .next) _ (λ x. refl) (λ x. refl) h)
-  (λ e. cond-all SoundS (sameV (g .reason) (v-atom a-normal)) _ (ended s w (g .reason)) (λ d. cut-sound (s .workers) (w .pid) (g .from) (s .next) h) (λ d. gone-sound (s .workers) (w .pid) (s .next) h))
-deliver-sound : (s : System) (gs : List Signal) → SoundS s → OnIs SoundS (deliver s gs)
-deliver-sound s [] h = tt
-deliver-sound s (g ∷ gs) h = opt-all (OnIs SoundS) (find (s .workers) (g .to)) (is (with-signals s gs)) (λ w. is (take-signal (with-signals s gs) g w)) (λ e. h) (λ w e. soft-sound (with-signals s gs) g w h)
+soft-sound s g w h = take-signal-all SoundS s g w (same-links (s .workers) (w .pid) (s .next) _ (λ x. refl) (λ x. refl) h) (cut-sound (s .workers) (w .pid) (g .from) (s .next) h) (gone-sound (s .workers) (w .pid) (s .next) h)
 pub move-sound : (g : Program) (s : System) (m : Move) → SoundS s → OnIs SoundS (move g s m)
 move-sound g s (turn n) h = turn-all g s n (OnIs SoundS) tt (λ me o p e d v. turned-sound g s n me o e v h)
-move-sound g s signal h = deliver-sound s (s .signals) h
-move-sound g s tick h = opt-all (OnIs SoundS) (first-time (s .workers)) not-allowed (λ t. cond (ltb (s .clock) t) (is (with-clock s t)) not-allowed) (λ e. tt) (λ t e. cond-all (OnIs SoundS) (ltb (s .clock) t) (is (with-clock s t)) not-allowed (λ d. h) (λ d. tt))
+move-sound g s signal h = deliver-all SoundS (Unit {0}) s (s .signals) (λ x gs i. h) (λ x gs w i e. soft-sound (with-signals s gs) x w h)
+move-sound g s tick h = tick-all SoundS (Unit {0}) s (λ t l. h)
 pub first-sound : (g : Program) (c : Control) → SoundS (at-first g c)
 first-sound g c = record {
     apart = (refl, tt);
-    below = λ q x e. cond-all (λ o. o ≡ some x → q < 1) (eqb 0 q) _ _ (λ h d. let z = eqb-is 0 q h in omega arith) (λ h d. absurd (none-some d)) e;
+    below = λ q x e. let z = only (first-worker c) x q e .0 in omega arith;
     links-below = λ q l x e a. absurd (bare q x l e a);
     both = λ p q x y e d a. absurd (bare p x q e a) }
   where
-    bare : (q : ℕ) (x : Worker) (l : ℕ) → find (at-first g c .workers) q ≡ some x → among l (x .links) ≡ true → ⊥
-    bare q x l e a = cond-all (λ o. o ≡ some x → ⊥) (eqb 0 q) (some (record { pid = 0; control = c; frames = []; mail = []; links = []; traps = false })) none (λ h d. no-clash a (sym (ap (λ (z : Worker). among l (z .links)) (some-is d)))) (λ h d. none-some d) e
+    bare : (q : ℕ) (x : Worker) (l : ℕ) → find (first-worker c ∷ []) q ≡ some x → among l (x .links) ≡ true → ⊥
+    bare q x l e a = no-clash a (sym (ap (λ (z : Worker). among l (z .links)) (only (first-worker c) x q e .1)))
 pub reached-sound : (g : Program) (l : List Move) (s : System) → Reached g l s → SoundS s
 reached-sound g l s r = reached-all g SoundS (λ c e. first-sound g c) (move-sound g) l s r
 pub links-both : Links-both

@@ -12,20 +12,20 @@ use Rattle.meaning.specs.Basics.{on-some, Name, same, listed}
 use Rattle.meaning.specs.Atoms.{a-type, a-match, a-clause, a-main}
 use Rattle.meaning.specs.Syntax.{Pattern, p-any, p-var, p-int, p-atom, p-tuple, p-nil, p-cons, Patterns, no-p, and-p, Operation, Expr, int, atom, var, nil, apply, case, receive, receive-until, catch, Exprs, no-e, and-e, Body, last, bind, Clauses, no-c, clause, Function, Program}
 use Rattle.meaning.specs.Values.{Value, Values, as-int, as-atom, as-tuple, as-cons, is-nil, first-of, same-some, same-int, Binding, look-up, match, matches}
-use Rattle.meaning.specs.System.{Scope, Until, for-ever, until, Control, eval, give, enter, fail, wait, Frame, operands-frame, bind-frame, case-frame, until-frame, catch-frame, Worker, System, on-worker, set-mail, gone, functions-of, function-of, with-version, Apart, swapped}
+use Rattle.meaning.specs.System.{Scope, Until, for-ever, until, Control, eval, give, enter, fail, wait, Frame, operands-frame, bind-frame, case-frame, until-frame, catch-frame, Worker, System, on-worker, set-mail, gone, functions-of, function-of, Apart, swapped, with-signals}
 use Rattle.meaning.specs.Turns.{Outcome, goes-on, stuck, error, gives, Chosen, Taken, choose, keep-front, take-first, rebind, bind-params, enter-function, perform, operands, evaluate, begin-body, wait-until, resume, unwind, timed-out, turn-with}
-use Rattle.meaning.specs.Moves.{Move, turn, signal, tick, Result, is, not-allowed, no-meaning, settle, move, first-name}
+use Rattle.meaning.specs.Moves.{Move, turn, signal, tick, settle, move, first-name}
 use Rattle.meaning.specs.Bound.{bound-by, bound-by-all, bound-expr, bound-exprs, bound-body, bound-clauses, all-different, no-function, sound-functions, sound-modules, has-main}
 use Rattle.meaning.specs.Grammar.{ExprAt, looser, compare-e, cons-e, sum-e, product-e, int-e, atom-e, var-e, nil-e, tuple-e, brackets-e, call-e, far-e, spawn-e, spawn-far-e, builtin-e, case-e, receive-e, until-e, catch-e, ExprsOf, none-es, one-es, more-es, BodyOf, last-b, then-b, bind-b, ClausesOf, no-cs, more-cs, FunctionOf, function-x, FunctionsOf, no-f, more-f, ModulesOf, no-m, more-m, count, Reads}
 use Rattle.meaning.specs.Promise.{Reached, Never-stuck}
 use Rattle.meaning.specs.Effects.{From, own, other, took, Turned, turn-goes, turn-ends, turn-swaps, turn-swapped-out, turn-stuck}
-use Rattle.meaning.proofs.Splits.{T-of, and-T, no-clash, cond-all, opt-all, bool-all, some-is, none-some, same-is, same-refl, OnSome, on-some-is, on-some-all, some-any}
-use Rattle.meaning.proofs.Effects.{Arity, perform-view}
+use Rattle.meaning.proofs.Splits.{T-of, and-T, no-clash, cond-all, opt-all, bool-all, none-some, same-is, same-refl, OnSome, on-some-all, some-any}
+use Rattle.meaning.proofs.Effects.{Arity, perform-view, entered-is}
 use Rattle.meaning.proofs.Links.{SoundS, move-sound, first-sound}
-use Rattle.meaning.proofs.OwnCode.{OldOr, HasAll, sub-all, settle-all, deliver-all, Next, act-next, did-old, old-refl}
-use Rattle.meaning.proofs.Finding.{gone-sub}
-use Rattle.meaning.proofs.Results.{OnR, OnIs, along, turn-all, tick-all, at-first, begin-all}
-use Rattle.meaning.proofs.Swapping.{end-old-sub}
+use Rattle.meaning.proofs.OwnCode.{OldOr, HasAll, sub-all, settle-all, Next, act-next, did-old, old-refl, soft-all}
+use Rattle.meaning.proofs.Finding.{gone-sub, only}
+use Rattle.meaning.proofs.Results.{OnR, along, turn-all, tick-all, at-first, begin-all, on-both, first-worker, deliver-all}
+use Rattle.meaning.proofs.Swapping.{swapped-sub}
 
 -- sound syntax under names
 abbrev mutual
@@ -163,9 +163,11 @@ abbrev pub WfK : List Frame → Type 0
 WfK [] = Unit {0}
 WfK (f ∷ k) = WfF f × WfK k
 pub code-good : (g : Program) (m : Name) (n : ℕ) (f : Name) (vs : List Value) (c : Control) → GMs g → enter-function g m n f vs ≡ some c → WfC c
-code-good g m n f vs c h e = let r = on-some-is (functions-of g m n) _ c e in let o = on-some-is (function-of (r .0) f (length vs)) _ c (r .2) in
-  let fs = subst (OnSome GFs) (r .1) (version-good g m n h) in let fn = subst (OnSome (λ (f : Function). GB (f .params) (f .body) × (length (f .params) ≡ length vs))) (o .1) (fn-good (r .0) f (length vs) fs) in
-  subst WfC (some-is (o .2)) (subst (λ (ys : List Name). GB ys (o .0 .body)) (sym (names-binds (o .0 .params) vs (fn .1))) (fn .0))
+code-good g m n f vs c h e =
+  let r = entered-is g m n f vs c e in
+  let fs = subst (OnSome GFs) (r .2) (version-good g m n h) in
+  let fn = subst (OnSome (λ (f : Function). GB (f .params) (f .body) × (length (f .params) ≡ length vs))) (r .3) (fn-good (r .0) f (length vs) fs) in
+  subst WfC (r .4) (subst (λ (ys : List Name). GB ys (r .1 .body)) (sym (names-binds (r .1 .params) vs (fn .1))) (fn .0))
 module _ (g : Program) (gd : GMs g) (s : System) (u : Apart (s .workers)) where
   abbrev M : Outcome → Type 0
   M o = Next WfC WfK ⊥ s o
@@ -226,20 +228,15 @@ turned-wf : (g : Program) (s : System) (n : ℕ) (me : Worker) (o : Outcome) →
 turned-wf g s n me o u (turn-goes c k w {t} d) r h = settle-all WfC WfK s t n c k tt (r .2) h (r .0) (r .1)
 turned-wf g s n me o u (turn-ends x why) r h = sub-all WfC WfK (gone (s .workers) (me .pid)) (s .workers) (gone-sub (s .workers) (me .pid) u) h
 turned-wf g s n me o u (turn-swaps c k x m y d f wo) r h = settle-all WfC WfK s (swapped s x m) n c k tt (r .2) h (r .0) (r .1)
-turned-wf g s n me o u (turn-swapped-out x m d f wo) r h = sub-all WfC WfK (swapped s x m .workers) (s .workers) (end-old-sub (s .workers) x m (with-version s x (m + 1)) u) h
+turned-wf g s n me o u (turn-swapped-out x m d f wo) r h = sub-all WfC WfK (swapped s x m .workers) (s .workers) (swapped-sub s x m u) h
 turned-wf g s n me o u turn-stuck r h = r
 pub move-wf : (g : Program) → GMs g → (s : System) (m : Move) → Apart (s .workers) → WfS s → OnR WfS ⊥ (move g s m)
 move-wf g gd s (turn n) u h = turn-all g s n (OnR WfS ⊥) tt (λ me o p e d v. let mine = h (me .pid) me e in turned-wf g s n me o u v (subst (OnSome (Next WfC WfK ⊥ s)) d (m-turn g gd s u me (me .control) (mine .0) (mine .1))) h)
-move-wf g gd s signal u h = deliver-all WfC WfK ⊥ s (s .signals) u h
-move-wf g gd s tick u h = tick-all WfS ⊥ s (λ t. h)
-keep-both : (r : Result) → OnIs SoundS r → OnR WfS ⊥ r → OnR (λ t. SoundS t × WfS t) ⊥ r
-keep-both (is t) p q = (p, q)
-keep-both not-allowed p q = tt
-keep-both no-meaning p q = q
+move-wf g gd s signal u h = deliver-all WfS ⊥ s (s .signals) (λ x gs i. h) (λ x gs w i e. soft-all WfC WfK (with-signals s gs) x w u h)
+move-wf g gd s tick u h = tick-all WfS ⊥ s (λ t l. h)
 first-wf : (g : Program) (c : Control) → GMs g → enter-function g (first-name g) 1 a-main [] ≡ some c → WfS (at-first g c)
-first-wf g c gd e q x d = cond-all (λ o. o ≡ some x → WfC (x .control) × WfK (x .frames)) (eqb 0 q) (some (record { pid = 0; control = c; frames = []; mail = []; links = []; traps = false })) none
-  (λ h f. subst (λ (z : Worker). WfC (z .control) × WfK (z .frames)) (some-is f) (code-good g (first-name g) 1 a-main [] c gd e, tt)) (λ h f. absurd (none-some f)) d
+first-wf g c gd e q x d = subst (λ (z : Worker). WfC (z .control) × WfK (z .frames)) (only (first-worker c) x q d .1) (code-good g (first-name g) 1 a-main [] c gd e, tt)
 pub reached-wf : (g : Program) → GMs g → (l : List Move) (s : System) → Reached g l s → WfS s
-reached-wf g gd l s r = subst (OnR (λ t. SoundS t × WfS t) ⊥) (r .2) (along g (λ t. SoundS t × WfS t) ⊥ (λ t m h. keep-both (move g t m) (move-sound g t m (h .0)) (move-wf g gd t m (h .0 .apart) (h .1))) l (r .0) (begin-all g (λ t. SoundS t × WfS t) (λ c i. (first-sound g c, first-wf g c gd i)) (r .0) (r .1))) .1
+reached-wf g gd l s r = subst (OnR (λ t. SoundS t × WfS t) ⊥) (r .2) (along g (λ t. SoundS t × WfS t) ⊥ (λ t m h. on-both SoundS WfS ⊥ (move g t m) (move-sound g t m (h .0)) (move-wf g gd t m (h .0 .apart) (h .1))) l (r .0) (begin-all g (λ t. SoundS t × WfS t) (λ c i. (first-sound g c, first-wf g c gd i)) (r .0) (r .1))) .1
 pub never-stuck : Never-stuck
-never-stuck t g s l rd b e = let gd = reads-good t g rd in subst (OnR (λ t. SoundS t × WfS t) ⊥) e (along g (λ t. SoundS t × WfS t) ⊥ (λ t m h. keep-both (move g t m) (move-sound g t m (h .0)) (move-wf g gd t m (h .0 .apart) (h .1))) l s (begin-all g (λ t. SoundS t × WfS t) (λ c i. (first-sound g c, first-wf g c gd i)) s b))
+never-stuck t g s l rd b e = let gd = reads-good t g rd in subst (OnR (λ t. SoundS t × WfS t) ⊥) e (along g (λ t. SoundS t × WfS t) ⊥ (λ t m h. on-both SoundS WfS ⊥ (move g t m) (move-sound g t m (h .0)) (move-wf g gd t m (h .0 .apart) (h .1))) l s (begin-all g (λ t. SoundS t × WfS t) (λ c i. (first-sound g c, first-wf g c gd i)) s b))

@@ -1,6 +1,5 @@
 -- How many numbers are given out, and that words mean those who are there.
 use mathlib.Core.Path.{_≡_, refl, subst, _∙_}
-use mathlib.Core.Bool.{cond}
 use mathlib.Core.List.{List, [], _∷_}
 use mathlib.Core.Option.{some}
 use Prim.Native.Nat.{ℕ, _+_, _≤_}
@@ -8,51 +7,32 @@ use native.Mathlib.Omega.{arith}
 use lib.ListN.{length}
 use lib.Dec.{eqb}
 use Rattle.meaning.specs.Basics.{Name, same}
-use Rattle.meaning.specs.Atoms.{a-old, a-normal}
 use Rattle.meaning.specs.Syntax.{Program}
-use Rattle.meaning.specs.Values.{v-atom, sameV}
-use Rattle.meaning.specs.System.{cut-link, Scope, Worker, Signal, Registered, System, with-signals, find, change, set-control, set-mail, add-mail, set-traps, add-link, gone, unnamed, ended, pid-of, old, end-old, with-new, with-version, swapped}
+use Rattle.meaning.specs.System.{cut-link, Scope, Worker, Signal, Registered, System, with-signals, find, change, set-control, set-mail, add-mail, set-traps, add-link, gone, unnamed, pid-of, with-new, swapped}
 use Rattle.meaning.specs.Turns.{Outcome}
-use Rattle.meaning.specs.Moves.{Move, turn, signal, tick, Result, is, not-allowed, no-meaning, settle, take-signal, deliver, move, moves, on-is}
+use Rattle.meaning.specs.Moves.{Move, turn, signal, tick, Result, is, not-allowed, no-meaning, settle, take-signal, move, moves, on-is}
 use Rattle.meaning.specs.Promise.{Few-numbers, Names-live}
 use Rattle.meaning.specs.Effects.{Effect, nothing, sent, spawned, linked-gone, exited, linked, trapped, showed, named, took, Turned, turn-goes, turn-ends, turn-swaps, turn-swapped-out, turn-stuck}
-use Rattle.meaning.proofs.Splits.{cond-all, opt-all, some-is, none-some, eqb-isnt}
+use Rattle.meaning.proofs.Splits.{cond-all, some-is, none-some, eqb-isnt}
 use Rattle.meaning.proofs.Finding.{Keeps, find-gone-other, find-append-some, change-stays}
 use Rattle.meaning.proofs.Links.{add-link-keeps}
-use Rattle.meaning.proofs.Results.{OnIs, on-is-of, turn-all, tick-all, begin-all, reached-all}
-use Rattle.meaning.proofs.Swapping.{end-old-next}
+use Rattle.meaning.proofs.Results.{OnIs, on-is-of, turn-all, tick-all, begin-all, reached-all, deliver-all, take-signal-all}
+use Rattle.meaning.proofs.Effects.{effect-bounds}
+use Rattle.meaning.proofs.Swapping.{swapped-next, swapped-all}
 
 -- the next number grows by at most one
-abbrev Up : System → System → Type 0
+abbrev pub Up : System → System → Type 0
 Up s t = t .next ≤ s .next + 1
-did-up : (g : Program) (s : System) (w : Scope) (me : ℕ) (t : System) → Effect g s w me t → Up s t
-did-up g s w me t nothing = omega arith
-did-up g s w me t (sent q v) = omega arith
-did-up g s w me t (spawned c f) = omega arith
-did-up g s w me t (linked-gone p d f) = omega arith
-did-up g s w me t (exited p r) = omega arith
-did-up g s w me t (linked q x d f) = omega arith
-did-up g s w me t (trapped b) = omega arith
-did-up g s w me t (showed l) = omega arith
-did-up g s w me t (named x) = omega arith
-did-up g s w me t (took ms) = omega arith
-swap-up : (s : System) (x : Name) (m : ℕ) → Up s (swapped s x m)
-swap-up s x m = let e : swapped s x m .next ≡ s .next = end-old-next (s .workers) x m (with-version s x (m + 1)) in omega arith
 turned-up : (g : Program) (s : System) (n : ℕ) (me : Worker) (o : Outcome) → Turned g s me o → OnIs (Up s) (settle n o)
-turned-up g s n me o (turn-goes c k w {t} d) = did-up g s w (me .pid) t d
+turned-up g s n me o (turn-goes c k w {t} d) = effect-bounds g s w (me .pid) t d .1
 turned-up g s n me o (turn-ends r why) = omega arith
-turned-up g s n me o (turn-swaps c k x m y d f wo) = swap-up s x m
-turned-up g s n me o (turn-swapped-out x m d f wo) = swap-up s x m
+turned-up g s n me o (turn-swaps c k x m y d f wo) = let e = swapped-next s x m in omega arith
+turned-up g s n me o (turn-swapped-out x m d f wo) = let e = swapped-next s x m in omega arith
 turned-up g s n me o turn-stuck = tt
-soft-next : (s : System) (g : Signal) (w : Worker) → take-signal s g w .next ≡ s .next
-soft-next s g w = cond-all (λ (t : System). t .next ≡ s .next) (w .traps) _ _ (λ e. refl) (λ e. cond-all (λ (t : System). t .next ≡ s .next) (sameV (g .reason) (v-atom a-normal)) _ (ended s w (g .reason)) (λ d. refl) (λ d. refl))
-deliver-up : (s : System) (gs : List Signal) → OnIs (Up s) (deliver s gs)
-deliver-up s [] = tt
-deliver-up s (g ∷ gs) = opt-all (OnIs (Up s)) (find (s .workers) (g .to)) (is (with-signals s gs)) (λ w. is (take-signal (with-signals s gs) g w)) (λ e. omega arith) (λ w e. let z : take-signal (with-signals s gs) g w .next ≡ s .next = soft-next (with-signals s gs) g w in omega arith)
-move-up : (g : Program) (s : System) (m : Move) → OnIs (Up s) (move g s m)
+pub move-up : (g : Program) (s : System) (m : Move) → OnIs (Up s) (move g s m)
 move-up g s (turn n) = turn-all g s n (OnIs (Up s)) tt (λ me o p e d v. turned-up g s n me o v)
-move-up g s signal = deliver-up s (s .signals)
-move-up g s tick = tick-all (Up s) (Unit {0}) s (λ t. omega arith)
+move-up g s signal = deliver-all (Up s) (Unit {0}) s (s .signals) (λ x gs i. omega arith) (λ x gs w i e. take-signal-all (Up s) (with-signals s gs) x w (omega arith) (omega arith) (omega arith))
+move-up g s tick = tick-all (Up s) (Unit {0}) s (λ t l. omega arith)
 moves-up : (g : Program) (l : List Move) (s : System) → OnIs (λ t. t .next ≤ s .next + length l) (moves g s l)
 moves-up g [] s = omega arith
 moves-up g (m ∷ l) s = go (move g s m) (move-up g s m) (λ t. moves-up g l t)
@@ -95,24 +75,20 @@ did-names g s w me u t e (trapped b) h = live-change (s .workers) me (set-traps 
 did-names g s w me u t e (showed l) h = h
 did-names g s w me u t e (named x) h = ((u, e), h)
 did-names g s w me u t e (took ms) h = live-change (s .workers) me (set-mail ms) (s .names) (λ x. refl) h
-end-old-names : (us : List Worker) (x : Name) (n : ℕ) (s : System) → LiveS s → LiveS (end-old us x n s)
-end-old-names [] x n s h = h
-end-old-names (u ∷ us) x n s h = end-old-names us x n (cond (old x n u) (ended s u (v-atom a-old)) s) (cond-all LiveS (old x n u) (ended s u (v-atom a-old)) s (λ e. live-gone (s .workers) (u .pid) (s .names) h) (λ e. h))
+swapped-names : (s : System) (x : Name) (n : ℕ) → LiveS s → LiveS (swapped s x n)
+swapped-names s x n h = swapped-all LiveS (λ t w i. live-gone (t .workers) (w .pid) (t .names) i) s x n h
 turned-names : (g : Program) (s : System) (n : ℕ) (me : Worker) (o : Outcome) → find (s .workers) (me .pid) ≡ some me → Turned g s me o → LiveS s → OnIs LiveS (settle n o)
 turned-names g s n me o e (turn-goes c k w {t} d) h = live-change (t .workers) n (set-control c k) (t .names) (λ x. refl) (did-names g s w (me .pid) me t e d h)
 turned-names g s n me o e (turn-ends r why) h = live-gone (s .workers) (me .pid) (s .names) h
-turned-names g s n me o e (turn-swaps c k x m y d f wo) h = live-change (swapped s x m .workers) n (set-control c k) (swapped s x m .names) (λ x. refl) (end-old-names (s .workers) x m (with-version s x (m + 1)) h)
-turned-names g s n me o e (turn-swapped-out x m d f wo) h = end-old-names (s .workers) x m (with-version s x (m + 1)) h
+turned-names g s n me o e (turn-swaps c k x m y d f wo) h = live-change (swapped s x m .workers) n (set-control c k) (swapped s x m .names) (λ x. refl) (swapped-names s x m h)
+turned-names g s n me o e (turn-swapped-out x m d f wo) h = swapped-names s x m h
 turned-names g s n me o e turn-stuck h = tt
 soft-names : (s : System) (g : Signal) (w : Worker) → LiveS s → LiveS (take-signal s g w)
-soft-names s g w h = cond-all LiveS (w .traps) _ _ (λ e. live-change (s .workers) (w .pid) (add-mail _) (s .names) (λ x. refl) h) (λ e. cond-all LiveS (sameV (g .reason) (v-atom a-normal)) _ (ended s w (g .reason)) (λ d. live-change (change (s .workers) (w .pid) (cut-link (g .from))) (g .from) (cut-link (w .pid)) (s .names) (λ x. refl) (live-change (s .workers) (w .pid) (cut-link (g .from)) (s .names) (λ x. refl) h)) (λ d. live-gone (s .workers) (w .pid) (s .names) h))
-deliver-names : (s : System) (gs : List Signal) → LiveS s → OnIs LiveS (deliver s gs)
-deliver-names s [] h = tt
-deliver-names s (g ∷ gs) h = opt-all (OnIs LiveS) (find (s .workers) (g .to)) (is (with-signals s gs)) (λ w. is (take-signal (with-signals s gs) g w)) (λ e. h) (λ w e. soft-names (with-signals s gs) g w h)
+soft-names s g w h = take-signal-all LiveS s g w (live-change (s .workers) (w .pid) (add-mail _) (s .names) (λ x. refl) h) (live-change (change (s .workers) (w .pid) (cut-link (g .from))) (g .from) (cut-link (w .pid)) (s .names) (λ x. refl) (live-change (s .workers) (w .pid) (cut-link (g .from)) (s .names) (λ x. refl) h)) (live-gone (s .workers) (w .pid) (s .names) h)
 move-names : (g : Program) (s : System) (m : Move) → LiveS s → OnIs LiveS (move g s m)
 move-names g s (turn n) h = turn-all g s n (OnIs LiveS) tt (λ me o p e d v. turned-names g s n me o e v h)
-move-names g s signal h = deliver-names s (s .signals) h
-move-names g s tick h = tick-all LiveS (Unit {0}) s (λ t. h)
+move-names g s signal h = deliver-all LiveS (Unit {0}) s (s .signals) (λ x gs i. h) (λ x gs w i e. soft-names (with-signals s gs) x w h)
+move-names g s tick h = tick-all LiveS (Unit {0}) s (λ t l. h)
 live-of : (ws : List Worker) (ks : List Registered) (x : Name) (n : ℕ) → Live ws ks → pid-of ks x ≡ some n → Here ws n
 live-of ws [] x n h e = absurd (none-some e)
 live-of ws (k ∷ ks) x n h e = cond-all (λ o. o ≡ some n → Here ws n) (same (k .name) x) (some (k .pid)) (pid-of ks x) (λ i d. subst (Here ws) (some-is d) (h .0)) (λ i d. live-of ws ks x n (h .1) d) e

@@ -4,24 +4,24 @@ use mathlib.Core.Logic.{_⊎_, inl, inr}
 use mathlib.Core.Bool.{false}
 use mathlib.Core.List.{List, [], _∷_, _++_}
 use mathlib.Core.Option.{some, none}
-use Prim.Native.Nat.{ℕ, _+_}
+use Prim.Native.Nat.{ℕ}
 use lib.ListN.{length}
 use lib.IntN.{ℤ, pos, negsuc}
 use lib.Dec.{leb}
 use Rattle.meaning.specs.Basics.{Name}
-use Rattle.meaning.specs.Atoms.{a-type, a-match, a-clause, a-normal}
+use Rattle.meaning.specs.Atoms.{a-type, a-match, a-clause}
 use Rattle.meaning.specs.Syntax.{Operation, Expr, int, atom, var, nil, apply, case, receive, receive-until, catch, Exprs, no-e, and-e, Body, last, bind, Clauses, Program}
-use Rattle.meaning.specs.Values.{Value, v-atom, as-int, sameV, look-up, match}
-use Rattle.meaning.specs.System.{cut-link, Scope, Until, for-ever, until, Control, eval, give, enter, fail, wait, Frame, operands-frame, bind-frame, case-frame, until-frame, catch-frame, Worker, Signal, System, with-signals, find, change, on-worker, set-control, set-mail, add-mail, set-links, set-traps, add-link, gone, ended, functions-of, function-of, current, among, with-version, Apart}
+use Rattle.meaning.specs.Values.{Value, as-int, look-up, match}
+use Rattle.meaning.specs.System.{cut-link, Scope, Until, for-ever, until, Control, eval, give, enter, fail, wait, Frame, operands-frame, bind-frame, case-frame, until-frame, catch-frame, Worker, Signal, System, find, change, on-worker, set-control, set-mail, add-mail, set-links, set-traps, add-link, gone, current, among, Apart}
 use Rattle.meaning.specs.Turns.{Outcome, goes-on, leaves, stuck, error, gives, choose, take-first, rebind, enter-function, perform, operands, evaluate, begin-body, wait-until, resume, unwind, timed-out, turn-with, turn-of}
-use Rattle.meaning.specs.Moves.{is, take-signal, deliver}
+use Rattle.meaning.specs.Moves.{take-signal}
 use Rattle.meaning.specs.Effects.{From, own, other, Effect, nothing, sent, spawned, linked-gone, exited, linked, trapped, showed, named, took}
-use Rattle.meaning.proofs.Splits.{cond-all, opt-all, some-is, OnSome, on-some-is}
+use Rattle.meaning.proofs.Splits.{cond-all, opt-all, OnSome}
 use Rattle.meaning.proofs.Finding.{Keeps, back, new-back, Sub, gone-sub}
-use Rattle.meaning.proofs.Effects.{Arity, Act, acts-value, acts-error, acts-call, acts-swap, acts-swapped-out, acts-stuck, perform-view}
+use Rattle.meaning.proofs.Effects.{Arity, Act, acts-value, acts-error, acts-call, acts-swap, acts-swapped-out, acts-stuck, perform-view, entered-is}
 use Rattle.meaning.proofs.Links.{add-link-keeps}
-use Rattle.meaning.proofs.Results.{OnR}
-use Rattle.meaning.proofs.Swapping.{end-old-sub}
+use Rattle.meaning.proofs.Results.{take-signal-all}
+use Rattle.meaning.proofs.Swapping.{swapped-sub}
 
 -- every worker of t was there with the same code and frames, or is new and has the property
 abbrev pub OldOr : (Control → Type 0) → System → System → Type 0
@@ -56,7 +56,7 @@ pub act-next : (PC : Control → Type 0) (PK : List Frame → Type 0) (ST : Type
 act-next PC PK ST g k s me w j n o pv pf fr pk st u (acts-value v d) = (pv v, pk, did-old PC g s w me _ fr d)
 act-next PC PK ST g k s me w j n o pv pf fr pk st u (acts-error r) = (pf r, pk, old-refl PC s)
 act-next PC PK ST g k s me w j n o pv pf fr pk st u (acts-call c f) = (fr c f, pk, old-refl PC s)
-act-next PC PK ST g k s me w j n o pv pf fr pk st u (acts-swap x m v y e h) = (pv v, pk, λ q z d. inl (z, end-old-sub (s .workers) x m (with-version s x (m + 1)) u q z d, refl, refl))
+act-next PC PK ST g k s me w j n o pv pf fr pk st u (acts-swap x m v y e h) = (pv v, pk, λ q z d. inl (z, swapped-sub s x m u q z d, refl, refl))
 act-next PC PK ST g k s me w j n o pv pf fr pk st u (acts-swapped-out x m e h) = tt
 act-next PC PK ST g k s me w j n o pv pf fr pk st u (acts-stuck h) = st h
 
@@ -82,11 +82,7 @@ module _ (PC : Control → Type 0) (PK : List Frame → Type 0) where
       go y d (inr i) = subst (λ (z : Worker). PC (z .control) × PK (z .frames)) (sym (i .1)) (pc, pk)
   -- signals and the clock change no code
   pub soft-all : (s : System) (g : Signal) (w : Worker) → Apart (s .workers) → HasAll PC PK (s .workers) → HasAll PC PK (take-signal s g w .workers)
-  soft-all s g w u h = cond-all (λ (t : System). HasAll PC PK (t .workers)) (w .traps) _ _ (λ e. kept-all (s .workers) (w .pid) (add-mail _) (λ x. refl) (λ x. (refl, refl)) h)
-    (λ e. cond-all (λ (t : System). HasAll PC PK (t .workers)) (sameV (g .reason) (v-atom a-normal)) _ (ended s w (g .reason)) (λ d. kept-all (change (s .workers) (w .pid) (cut-link (g .from))) (g .from) (cut-link (w .pid)) (λ x. refl) (λ x. (refl, refl)) (kept-all (s .workers) (w .pid) (cut-link (g .from)) (λ x. refl) (λ x. (refl, refl)) h)) (λ d. sub-all (gone (s .workers) (w .pid)) (s .workers) (gone-sub (s .workers) (w .pid) u) h))
-  pub deliver-all : (N : Type 0) (s : System) (gs : List Signal) → Apart (s .workers) → HasAll PC PK (s .workers) → OnR (λ t. HasAll PC PK (t .workers)) N (deliver s gs)
-  deliver-all N s [] u h = tt
-  deliver-all N s (g ∷ gs) u h = opt-all (OnR (λ t. HasAll PC PK (t .workers)) N) (find (s .workers) (g .to)) (is (with-signals s gs)) (λ w. is (take-signal (with-signals s gs) g w)) (λ e. h) (λ w e. soft-all (with-signals s gs) g w u h)
+  soft-all s g w u h = take-signal-all (λ t. HasAll PC PK (t .workers)) s g w (kept-all (s .workers) (w .pid) (add-mail _) (λ x. refl) (λ x. (refl, refl)) h) (kept-all (change (s .workers) (w .pid) (cut-link (g .from))) (g .from) (cut-link (w .pid)) (λ x. refl) (λ x. (refl, refl)) (kept-all (s .workers) (w .pid) (cut-link (g .from)) (λ x. refl) (λ x. (refl, refl)) h)) (sub-all (gone (s .workers) (w .pid)) (s .workers) (gone-sub (s .workers) (w .pid) u) h)
 
 -- where code is at work: a property of each module and version
 abbrev pub AllC : (Name → ℕ → Type 0) → Control → Type 0
@@ -105,7 +101,7 @@ abbrev pub AllK : (Name → ℕ → Type 0) → List Frame → Type 0
 AllK Q [] = Unit {0}
 AllK Q (f ∷ fs) = AllF Q f × AllK Q fs
 pub code-all : (Q : Name → ℕ → Type 0) (g : Program) (m : Name) (n : ℕ) (f : Name) (vs : List Value) (c : Control) → enter-function g m n f vs ≡ some c → Q m n → AllC Q c
-code-all Q g m n f vs c e q = let r = on-some-is (functions-of g m n) _ c e in let o = on-some-is (function-of (r .0) f (length vs)) _ c (r .2) in subst (AllC Q) (some-is (o .2)) q
+code-all Q g m n f vs c e q = subst (AllC Q) (entered-is g m n f vs c e .4) q
 module _ (g : Program) (s : System) (Q : Name → ℕ → Type 0) (now : (m : Name) (n : ℕ) → current (s .loaded) m ≡ some n → Q m n) (u : Apart (s .workers)) where
   abbrev N : Outcome → Type 0
   N o = Next (AllC Q) (AllK Q) (Unit {0}) s o

@@ -8,18 +8,20 @@ use mathlib.Core.Path.{_≡_, refl, sym, ap, subst, _∙_}
 use Prim.Native.Nat.{ℕ, _+_, _<_, _≤_}
 use native.Mathlib.Decide.{decLe}
 use native.Mathlib.Omega.{arith}
-use Rattle.meaning.specs.Basics.{opt, on-some, Name}
-use Rattle.meaning.specs.Atoms.{a-old, a-normal, a-exit}
-use Rattle.meaning.specs.Syntax.{Function, Program}
-use Rattle.meaning.specs.Values.{Value, v-atom, v-tuple, v-pid, no-v, and-v, sameV}
-use Rattle.meaning.specs.System.{with-name, swapped, with-line, Apart, Control, Worker, System, find, change, gone, set-control, set-mail, add-mail, set-links, set-traps, add-link, among, Scope, enter, Signal, with-signals, on-worker, without, ended, functions-of, function-of, end-old, old, with-new, with-version}
-use Rattle.meaning.specs.Turns.{Outcome, enter-function, bind-params}
-use Rattle.meaning.specs.Moves.{turn, signal, is, settle, time-of, move, take-signal, deliver}
+use Rattle.meaning.specs.Basics.{Name}
+use Rattle.meaning.specs.Atoms.{a-old}
+use Rattle.meaning.specs.Syntax.{Program}
+use Rattle.meaning.specs.Values.{Value, v-atom}
+use Rattle.meaning.specs.System.{with-name, swapped, with-line, Apart, Control, Worker, System, find, change, gone, set-control, set-mail, add-mail, set-links, set-traps, add-link, among, Scope, Signal, with-signals, on-worker, ended, with-new, with-version, cut-link}
+use Rattle.meaning.specs.Turns.{Outcome}
+use Rattle.meaning.specs.Moves.{turn, signal, is, settle, time-of, move, take-signal, deliver, exit-message}
 use Rattle.meaning.specs.Effects.{From, own, other, Effect, nothing, took, spawned, showed, sent, linked, linked-gone, exited, trapped, named, Turned, turn-goes, turn-ends, turn-swaps, turn-swapped-out, turn-stuck}
 use Rattle.meaning.specs.Scheduler.{Numbered}
 use Rattle.meaning.proofs.Finding.{Keeps, find-change-none, find-gone-none, find-change-other, find-gone-other, find-changed, find-append-some, find-append-none, apart-change, apart-gone, find-gone-same, apart-new, find-here, find-there}
 use Rattle.meaning.proofs.Splits.{either, some-or-none, impossible}
-use Rattle.meaning.proofs.Results.{OnIs, on-is-of, turn-all}
+use Rattle.meaning.proofs.Results.{OnIs, on-is-of, turn-all, deliver-all, take-signal-all}
+use Rattle.meaning.proofs.Effects.{entered-is}
+use Rattle.meaning.proofs.Swapping.{swapped-all}
 
 -- what another may do to a worker: the same code at work, and perhaps more mail
 abbrev pub More : Worker → Worker → Type 0
@@ -36,8 +38,8 @@ abbrev pub Gentle : (Worker → Worker) → Type 0
 Gentle f = (w : Worker) → (f w .pid ≡ w .pid) × More w (f w)
 pub gentle-mail : (v : Value) → Gentle (add-mail v)
 gentle-mail v w = (refl, (refl, (v ∷ [], refl)))
-pub gentle-links : (h : Worker → List ℕ) → Gentle (λ w. set-links (h w) w)
-gentle-links h w = (refl, More-same w)
+pub gentle-cut : (n : ℕ) → Gentle (cut-link n)
+gentle-cut n w = (refl, More-same w)
 pub gentle-traps : (b : Bool) → Gentle (set-traps b)
 gentle-traps b w = (refl, More-same w)
 pub gentle-link : (n : ℕ) → Gentle (add-link n)
@@ -70,22 +72,10 @@ below-next s i q w h = go (decLe (s .next) q)
     go : Dec (s .next ≤ q) → q < s .next
     go (yes l) = impossible (cc (i .1 q l))
     go (no f) = omega arith
--- code that begins wait for no time
-abbrev pub Young : Option Control → Type 0
-Young none = Unit {0}
-Young (some c) = time-of c ≡ none
-young-code : (g : Program) (m : Name) (v : ℕ) (f : Name) (vs : List Value) → Young (enter-function g m v f vs)
-young-code g m v f vs = one (functions-of g m v)
-  where
-    two : (o : Option Function) → Young (on-some o (λ fn. some (enter (fn .body) (record { vars = bind-params (fn .params) vs; home = m; version = v }))))
-    two none = tt
-    two (some fn) = refl
-    one : (o : Option (List Function)) → Young (on-some o (λ fs. on-some (function-of fs f (lib.ListN.length vs)) (λ fn. some (enter (fn .body) (record { vars = bind-params (fn .params) vs; home = m; version = v })))))
-    one none = tt
-    one (some fs) = two (function-of fs f (lib.ListN.length vs))
+-- code that begins waits for no time
 young-from : (g : Program) (s : System) (w : Scope) (c : Control) → From g s w c → time-of c ≡ none
-young-from g s w c (own f vs e) = subst Young e (young-code g (w .home) (w .version) f vs)
-young-from g s w c (other m n f vs d e) = subst Young e (young-code g m n f vs)
+young-from g s w c (own f vs e) = subst (λ (z : Control). time-of z ≡ none) (entered-is g (w .home) (w .version) f vs c e .4) refl
+young-from g s w c (other m n f vs d e) = subst (λ (z : Control). time-of z ≡ none) (entered-is g m n f vs c e .4) refl
 
 module _ (n : ℕ) (s : System) (i : Numbered s) where
   pub past-start : Past n s s
@@ -111,13 +101,6 @@ module _ (n : ℕ) (s : System) (i : Numbered s) where
       go (inr d) = subst (Now w) (sym (find-gone-other ws m q d ∙ h)) (More-same w)
   pub past-ended : (t : System) (x : Worker) (r : Value) → Past n s t → Past n s (ended t x r)
   past-ended t x r p = record { numbered = (apart-gone (t .workers) (x .pid) (p .numbered .0), λ q l. find-gone-none (t .workers) (x .pid) q (p .numbered .1 q l)); next = p .next; clock = p .clock; others = λ q w d h. Now-step w (find (t .workers) q) (find (gone (t .workers) (x .pid)) q) (p .others q w d h) (find-gone-none (t .workers) (x .pid) q) (λ y e. gone-now (t .workers) (x .pid) (p .numbered .0) q y e); ends = λ q l h. find-gone-none (t .workers) (x .pid) q (p .ends q l h); fresh = λ q y d h e. fresh-step (find (t .workers) q) (find (gone (t .workers) (x .pid)) q) y (find-gone-none (t .workers) (x .pid) q) (λ z b. gone-now (t .workers) (x .pid) (p .numbered .0) q z b) e (λ z b. p .fresh q z d h b) }
-  pub past-end-old : (ws : List Worker) (x : Name) (v : ℕ) (t : System) → Past n s t → Past n s (end-old ws x v t)
-  past-end-old [] x v t p = p
-  past-end-old (w ∷ ws) x v t p = past-end-old ws x v (cond (old x v w) (ended t w (v-atom a-old)) t) (go (old x v w))
-    where
-      go : (b : Bool) → Past n s (cond b (ended t w (v-atom a-old)) t)
-      go true = past-ended t w (v-atom a-old) p
-      go false = p
   pub past-begun : (t : System) (c : Control) → time-of c ≡ none → Past n s t → Past n s (with-new t c)
   past-begun t c young p = record { numbered = (apart-new (t .workers) new (p .numbered .1 (t .next) (omega arith)) (p .numbered .0), λ q l. find-append-none (t .workers) (new ∷ []) q (p .numbered .1 q (omega arith)) ∙ find-there new [] q (λ e. apart q e l)); next = let h = p .next in omega arith; clock = p .clock; others = λ q w d h. Now-step w (find (t .workers) q) (find (t .workers ++ (new ∷ [])) q) (p .others q w d h) (λ e. find-append-none (t .workers) (new ∷ []) q e ∙ find-there new [] q (low q (below-next s i q w h))) (λ y e. subst (Now y) (sym (find-append-some (t .workers) (new ∷ []) q y e)) (More-same y)); ends = λ q l h. find-append-none (t .workers) (new ∷ []) q (p .ends q l h) ∙ find-there new [] q (λ e. low q l e); fresh = λ q x d h e. newer q x d h e (some-or-none (find (t .workers) q)) }
     where
@@ -148,7 +131,7 @@ effect-past g s w n i (exited q r) = past-same n s i s _ refl refl refl (past-st
 effect-past g s w n i (trapped b) = past-gentle n s i s n (set-traps b) (gentle-traps b) (past-start n s i)
 effect-past g s w n i (named x) = past-same n s i s (with-name s x n) refl refl refl (past-start n s i)
 swapped-past : (s : System) (n : ℕ) (i : Numbered s) (x : Name) (m : ℕ) → Past n s (swapped s x m)
-swapped-past s n i x m = past-end-old n s i (s .workers) x m (with-version s x (m + 1)) (past-same n s i s (with-version s x (m + 1)) refl refl refl (past-start n s i))
+swapped-past s n i x m = swapped-all (Past n s) (λ t w p. past-ended n s i t w (v-atom a-old) p) s x m (past-same n s i s (with-version s x (m + 1)) refl refl refl (past-start n s i))
 turned-past : (g : Program) (s : System) (me : Worker) (o : Outcome) → Numbered s → Turned g s me o → OnIs (Past (me .pid) s) (settle (me .pid) o)
 turned-past g s me o i (turn-goes c k w {t} d) = past-own (me .pid) s i t (set-control c k) (λ x. refl) (effect-past g s w (me .pid) i d)
 turned-past g s me o i (turn-ends r e) = past-ended (me .pid) s i s me r (past-start (me .pid) s i)
@@ -160,22 +143,9 @@ pub after-turn : (g : Program) (s t : System) (n : ℕ) → Numbered s → move 
 after-turn g s t n i h = on-is-of (Past n s) (move g s (turn n)) t (turn-all g s n (OnIs (Past n s)) tt (λ me o p e d v. subst (λ (q : ℕ). OnIs (Past q s) (settle q o)) p (turned-past g s me o i v))) h
 -- a signal: for whatever n
 pub after-signal : (g : Program) (s t : System) (n : ℕ) → Numbered s → move g s signal ≡ is t → Past n s t
-after-signal g s t n i h = go (s .signals) h
+after-signal g s t n i h = on-is-of (Past n s) (deliver s (s .signals)) t (deliver-all (Past n s) (Unit {0}) s (s .signals) (λ x gs e. plain gs) (λ x gs w e f. taken (with-signals s gs) x w (plain gs))) h
   where
-    soft : (u : System) (x : Signal) (w : Worker) → Past n s u → Past n s (take-signal u x w)
-    soft u x w p = one (w .traps)
-      where
-        two : (b : Bool) → Past n s (cond b (on-worker (on-worker u (w .pid) (λ y. set-links (without (x .from) (y .links)) y)) (x .from) (λ y. set-links (without (w .pid) (y .links)) y)) (ended u w (x .reason)))
-        two true = past-gentle n s i (on-worker u (w .pid) (λ y. set-links (without (x .from) (y .links)) y)) (x .from) (λ y. set-links (without (w .pid) (y .links)) y) (gentle-links (λ y. without (w .pid) (y .links))) (past-gentle n s i u (w .pid) (λ y. set-links (without (x .from) (y .links)) y) (gentle-links (λ y. without (x .from) (y .links))) p)
-        two false = past-ended n s i u w (x .reason) p
-        one : (b : Bool) → Past n s (cond b (on-worker u (w .pid) (add-mail (v-tuple (and-v (v-atom a-exit) (and-v (v-pid (x .from)) (and-v (x .reason) no-v)))))) (cond (sameV (x .reason) (v-atom a-normal)) (on-worker (on-worker u (w .pid) (λ y. set-links (without (x .from) (y .links)) y)) (x .from) (λ y. set-links (without (w .pid) (y .links)) y)) (ended u w (x .reason))))
-        one true = past-gentle n s i u (w .pid) (add-mail (v-tuple (and-v (v-atom a-exit) (and-v (v-pid (x .from)) (and-v (x .reason) no-v))))) (gentle-mail _) p
-        one false = two (sameV (x .reason) (v-atom a-normal))
     plain : (gs : List Signal) → Past n s (with-signals s gs)
     plain gs = past-same n s i s (with-signals s gs) refl refl refl (past-start n s i)
-    inner : (x : Signal) (gs : List Signal) (o : Option Worker) → opt o (is (with-signals s gs)) (λ w. is (take-signal (with-signals s gs) x w)) ≡ is t → Past n s t
-    inner x gs none e = let y : with-signals s gs ≡ t = cc in subst (Past n s) y (plain gs)
-    inner x gs (some w) e = let y : take-signal (with-signals s gs) x w ≡ t = cc in subst (Past n s) y (soft (with-signals s gs) x w (plain gs))
-    go : (gs : List Signal) → deliver s gs ≡ is t → Past n s t
-    go [] e = impossible (cc)
-    go (x ∷ gs) e = inner x gs (find (s .workers) (x .to)) e
+    taken : (u : System) (x : Signal) (w : Worker) → Past n s u → Past n s (take-signal u x w)
+    taken u x w p = take-signal-all (Past n s) u x w (past-gentle n s i u (w .pid) (add-mail (exit-message x)) (gentle-mail (exit-message x)) p) (past-gentle n s i (on-worker u (w .pid) (cut-link (x .from))) (x .from) (cut-link (w .pid)) (gentle-cut (w .pid)) (past-gentle n s i u (w .pid) (cut-link (x .from)) (gentle-cut (x .from)) p)) (past-ended n s i u w (x .reason) p)

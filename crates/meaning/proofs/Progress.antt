@@ -23,6 +23,7 @@ use Rattle.meaning.proofs.Scanning.{woken-time, those, gains, woken-all, could
 use Rattle.meaning.proofs.Beginning.{due-turn}
 use Rattle.meaning.proofs.Splits.{impossible, is-false, is-true}
 use Rattle.meaning.proofs.Quiet.{one-can}
+use Rattle.meaning.proofs.Results.{turn-found}
 
 due-or-not : (s : System) (q : ℕ) → Due s q ⊎ (Due s q → ⊥)
 due-or-not s q = one (find (s .workers) q) refl
@@ -53,7 +54,7 @@ quiet-now g s k i e f = ap (λ z. no-signals z && (not (any-can g s (s .workers)
         go (inr b) = At-none (b .1)
 
 turn-allowed : (g : Program) (s : System) (n : ℕ) → Could g s n → move g s (turn n) ≡ not-allowed → ⊥
-turn-allowed g s n (w, f, c) h = inner (turn-of g s w) c (sym (ap (λ o. opt o not-allowed (λ y. opt (turn-of g s y) not-allowed (settle n))) f) ∙ h)
+turn-allowed g s n (w, f, c) h = inner (turn-of g s w) c (sym (turn-found g s n w f) ∙ h)
   where
     denied : (o : Outcome) → settle n o ≡ not-allowed → ⊥
     denied (goes-on c k u) e = impossible (cc)

@@ -1,5 +1,5 @@
 -- Who can go on depends on the clock, the code at work and the mail alone; and more mail and time take it from nobody.
-use mathlib.Core.Path.{_≡_, refl, sym, _∙_}
+use mathlib.Core.Path.{_≡_, refl, sym, _∙_, ap}
 use mathlib.Core.Bool.{Bool, true, false, cond}
 use mathlib.Core.List.{List, [], _∷_, _++_}
 use mathlib.Core.Option.{Option, some, none}
@@ -46,6 +46,8 @@ can-c g s me (wait cs u w) = go (take-first cs (w .vars) (me .mail)) (λ t. goes
     go (some t) f = refl
 pub can-is : (g : Program) (s : System) (me : Worker) → can g s me ≡ ready (s .clock) (me .control) (me .mail)
 can-is g s me = can-c g s me (me .control)
+pub can-same : (g : Program) (s t : System) (w x : Worker) → t .clock ≡ s .clock → x .control ≡ w .control → x .mail ≡ w .mail → can g t x ≡ can g s w
+can-same g s t w x e c m = can-is g t x ∙ ap (λ z. ready z (x .control) (x .mail)) e ∙ ap (λ z. ready (s .clock) z (x .mail)) c ∙ ap (λ z. ready (s .clock) (w .control) z) m ∙ sym (can-is g s w)
 
 abbrev pub has : {A : Type 0} → Option A → Bool
 has o = opt o false (λ x. true)

@@ -1,21 +1,22 @@
 -- What holds of the results of moves: of a turn by its view, of a signal by how it is taken, of the clock; so of every
 -- system that a program comes to, if it holds at first and every move keeps it.
-use mathlib.Core.Path.{_≡_, subst, refl, sym}
+use mathlib.Core.Path.{_≡_, subst, refl, sym, ap}
 use mathlib.Core.List.{List, [], _∷_, _++_}
 use mathlib.Core.Option.{some, Option, none}
 use mathlib.Core.Bool.{cond, true, false, not}
-use Prim.Native.Nat.{ℕ}
-use lib.Dec.{ltb, T}
+use Prim.Native.Nat.{ℕ, _<_}
+use lib.Dec.{ltb, T, ltb→lt}
 use Rattle.meaning.specs.Basics.{opt, on-some}
-use Rattle.meaning.specs.Atoms.{a-main}
-use Rattle.meaning.specs.Syntax.{Program, Pattern, Function, Module}
-use Rattle.meaning.specs.System.{System, Worker, find, with-clock, Control, function-of}
+use Rattle.meaning.specs.Atoms.{a-main, a-normal}
+use Rattle.meaning.specs.Syntax.{Program, Function, Module}
+use Rattle.meaning.specs.Values.{sameV, v-atom}
+use Rattle.meaning.specs.System.{System, Worker, find, with-clock, Control, function-of, Signal, with-signals, on-worker, add-mail, cut-link, ended}
 use Rattle.meaning.specs.Turns.{Outcome, turn-of, enter-function}
-use Rattle.meaning.specs.Moves.{Move, Result, is, not-allowed, no-meaning, move, moves, on-is, turn, settle, first-time, clock-on, begin, first-name, first-versions}
+use Rattle.meaning.specs.Moves.{Move, Result, is, not-allowed, no-meaning, move, moves, on-is, turn, settle, first-time, clock-on, begin, first-name, first-versions, deliver, take-signal, exit-message}
 use Rattle.meaning.specs.Bound.{has-main, sound-modules}
 use Rattle.meaning.specs.Promise.{Begins, Reached}
 use Rattle.meaning.specs.Effects.{Turned}
-use Rattle.meaning.proofs.Splits.{opt-all, OnSome, cond-all, and-T, same-refl}
+use Rattle.meaning.proofs.Splits.{opt-all, OnSome, cond-all, and-T, same-refl, T-of}
 use Rattle.meaning.proofs.Finding.{find-pid}
 use Rattle.meaning.proofs.Effects.{turn-view}
 
@@ -37,10 +38,11 @@ along g P N step (m ∷ l) s h = go (move g s m) (step s m h) (λ t p. along g P
     go (is t) p f = f t p
     go not-allowed p f = tt
     go no-meaning p f = p
-pub on-both : (P Q : System → Type 0) (M N : Type 0) (r : Result) → OnR P M r → OnR Q N r → OnR (λ t. P t × Q t) (M × N) r
-on-both P Q M N (is t) p q = (p, q)
-on-both P Q M N not-allowed p q = tt
-on-both P Q M N no-meaning p q = (p, q)
+-- two properties together
+pub on-both : (P Q : System → Type 0) (N : Type 0) (r : Result) → OnIs P r → OnR Q N r → OnR (λ t. P t × Q t) N r
+on-both P Q N (is t) p q = (p, q)
+on-both P Q N not-allowed p q = tt
+on-both P Q N no-meaning p q = q
 
 -- the moves of steps
 pub moves-append : (g : Program) (s : System) (l r : List Move) → moves g s (l ++ r) ≡ on-is (moves g s l) (λ t. moves g t r)
@@ -55,12 +57,23 @@ moves-append g s (x ∷ l) r = go (move g s x) (λ t. moves-append g t l r)
 pub turn-all : (g : Program) (s : System) (n : ℕ) (P : Result → Type 0) → P not-allowed → ((me : Worker) (o : Outcome) → me .pid ≡ n → find (s .workers) (me .pid) ≡ some me → turn-of g s me ≡ some o → Turned g s me o → P (settle n o)) → P (move g s (turn n))
 turn-all g s n P no-turn f = opt-all P (find (s .workers) n) not-allowed (λ w. opt (turn-of g s w) not-allowed (settle n)) (λ e. no-turn)
   (λ w e. opt-all P (turn-of g s w) not-allowed (settle n) (λ d. no-turn) (λ o d. let p = find-pid (s .workers) n w e in f w o p (subst (λ (z : ℕ). find (s .workers) z ≡ some w) (sym p) e) d (subst (OnSome (Turned g s w)) d (turn-view g s w))))
-pub tick-all : (Pattern : System → Type 0) (N : Type 0) (s : System) → ((t : ℕ) → Pattern (with-clock s t)) → OnR Pattern N (clock-on s)
-tick-all Pattern N s h = opt-all (OnR Pattern N) (first-time (s .workers)) not-allowed (λ t. cond (ltb (s .clock) t) (is (with-clock s t)) not-allowed) (λ e. tt) (λ t e. cond-all (OnR Pattern N) (ltb (s .clock) t) (is (with-clock s t)) not-allowed (λ d. h t) (λ d. tt))
-
+-- the turn of a worker that is there
+pub turn-found : (g : Program) (s : System) (n : ℕ) (w : Worker) → find (s .workers) n ≡ some w → move g s (turn n) ≡ opt (turn-of g s w) not-allowed (settle n)
+turn-found g s n w e = ap (λ (o : Option Worker). opt o not-allowed (λ v. opt (turn-of g s v) not-allowed (settle n))) e
+-- the clock goes on
+pub tick-all : (P : System → Type 0) (N : Type 0) (s : System) → ((t : ℕ) → s .clock < t → P (with-clock s t)) → OnR P N (clock-on s)
+tick-all P N s h = opt-all (OnR P N) (first-time (s .workers)) not-allowed (λ t. cond (ltb (s .clock) t) (is (with-clock s t)) not-allowed) (λ e. tt) (λ t e. cond-all (OnR P N) (ltb (s .clock) t) (is (with-clock s t)) not-allowed (λ d. h t (ltb→lt (s .clock) t (T-of d))) (λ d. tt))
+-- a signal is lost, or is taken in one of three ways: as a message, as the end of a link, or as the worker's end
+pub deliver-all : (P : System → Type 0) (N : Type 0) (s : System) (gs : List Signal) → ((g : Signal) (hs : List Signal) → gs ≡ g ∷ hs → P (with-signals s hs)) → ((g : Signal) (hs : List Signal) (w : Worker) → gs ≡ g ∷ hs → find (s .workers) (g .to) ≡ some w → P (take-signal (with-signals s hs) g w)) → OnR P N (deliver s gs)
+deliver-all P N s [] lost taken = tt
+deliver-all P N s (g ∷ hs) lost taken = opt-all (OnR P N) (find (s .workers) (g .to)) (is (with-signals s hs)) (λ w. is (take-signal (with-signals s hs) g w)) (λ e. lost g hs refl) (λ w e. taken g hs w refl e)
+pub take-signal-all : (P : System → Type 0) (s : System) (g : Signal) (w : Worker) → P (on-worker s (w .pid) (add-mail (exit-message g))) → P (on-worker (on-worker s (w .pid) (cut-link (g .from))) (g .from) (cut-link (w .pid))) → P (ended s w (g .reason)) → P (take-signal s g w)
+take-signal-all P s g w message link end = cond-all P (w .traps) _ _ (λ h. message) (λ h. cond-all P (sameV (g .reason) (v-atom a-normal)) _ (ended s w (g .reason)) (λ i. link) (λ i. end))
 -- the first system
+abbrev pub first-worker : Control → Worker
+first-worker c = record { pid = 0; control = c; frames = []; mail = []; links = []; traps = false }
 abbrev pub at-first : Program → Control → System
-at-first g c = record { workers = record { pid = 0; control = c; frames = []; mail = []; links = []; traps = false } ∷ []; next = 1; clock = 0; loaded = first-versions g []; names = []; signals = []; shown = [] }
+at-first g c = record { workers = first-worker c ∷ []; next = 1; clock = 0; loaded = first-versions g []; names = []; signals = []; shown = [] }
 pub begin-all : (g : Program) (P : System → Type 0) → ((c : Control) → enter-function g (first-name g) 1 a-main [] ≡ some c → P (at-first g c)) → (b : System) → begin g ≡ some b → P b
 begin-all g P h b e = subst (OnSome P) e (go (enter-function g (first-name g) 1 a-main []) refl)
   where

@@ -4,6 +4,7 @@ use mathlib.Core.Path.{_≡_, refl, sym, ap, subst, _∙_}
 use mathlib.Core.Bool.{true, false, cond, _||_}
 use mathlib.Core.List.{List, [], _∷_, _++_, append-nil, append-assoc}
 use mathlib.Core.Option.{some, none}
+use mathlib.Core.Logic.{inl, inr}
 use Prim.Native.Nat.{ℕ, _+_}
 use native.Mathlib.Omega.{arith}
 use lib.Dec.{eqb}
@@ -12,41 +13,48 @@ use Rattle.meaning.specs.Atoms.{a-old}
 use Rattle.meaning.specs.Values.{v-atom, Value}
 use Rattle.meaning.specs.System.{Worker, Loaded, System, find, gone, ended, current, now-loaded, old, end-old, with-version, Apart, swapped, Signal, among, told}
 use Rattle.meaning.specs.Promise.{Told-of, this-one, a-later}
-use Rattle.meaning.proofs.Splits.{cond-all, cond-true, cond-false, bool-all, some-is, none-some, eqb-is, eqb-isnt, same-refl, no-clash, is-true, is-false}
-use Rattle.meaning.proofs.Finding.{find-gone-other, find-gone-same, apart-gone, Sub, gone-sub}
+use Rattle.meaning.proofs.Splits.{cond-all, cond-true, cond-false, bool-all, some-is, none-some, eqb-is, same-refl, no-clash, is-true, is-false, either}
+use Rattle.meaning.proofs.Finding.{find-gone-other, find-gone-same, apart-gone, Sub, gone-sub, find-apart, find-here, find-there}
 
--- a swap: who has old code is gone, and who has none is as before
-pub end-old-keeps : (us : List Worker) (x : Name) (n : ℕ) (s : System) (q : ℕ) → find us q ≡ none → find (end-old us x n s .workers) q ≡ find (s .workers) q
-end-old-keeps [] x n s q e = refl
-end-old-keeps (u ∷ us) x n s q e = cond-all (λ o. o ≡ none → find (end-old us x n (cond (old x n u) (ended s u (v-atom a-old)) s) .workers) q ≡ find (s .workers) q) (eqb (u .pid) q) (some u) (find us q)
-  (λ h d. absurd (none-some (sym d)))
-  (λ h d. end-old-keeps us x n (cond (old x n u) (ended s u (v-atom a-old)) s) q d ∙ cond-all (λ (t : System). find (t .workers) q ≡ find (s .workers) q) (old x n u) (ended s u (v-atom a-old)) s (λ i. find-gone-other (s .workers) (u .pid) q (λ r. eqb-isnt (u .pid) q h (sym r))) (λ i. refl)) e
-pub end-old-spares : (us : List Worker) (x : Name) (n : ℕ) (s : System) (q : ℕ) (w : Worker) → Apart us → find us q ≡ some w → old x n w ≡ false → find (end-old us x n s .workers) q ≡ find (s .workers) q
-end-old-spares [] x n s q w u e f = absurd (none-some e)
-end-old-spares (v ∷ us) x n s q w u e f = cond-all (λ o. o ≡ some w → find (end-old us x n (cond (old x n v) (ended s v (v-atom a-old)) s) .workers) q ≡ find (s .workers) q) (eqb (v .pid) q) (some v) (find us q)
-  (λ h d. let z : v ≡ w = some-is d in end-old-keeps us x n (cond (old x n v) (ended s v (v-atom a-old)) s) q (subst (λ (i : ℕ). find us i ≡ none) (eqb-is (v .pid) q h) (u .0)) ∙ ap (λ (t : System). find (t .workers) q) (cond-false (old x n v) (ended s v (v-atom a-old)) s (ap (old x n) z ∙ f)))
-  (λ h d. end-old-spares us x n (cond (old x n v) (ended s v (v-atom a-old)) s) q w (u .1) d f ∙ cond-all (λ (t : System). find (t .workers) q ≡ find (s .workers) q) (old x n v) (ended s v (v-atom a-old)) s (λ i. find-gone-other (s .workers) (v .pid) q (λ r. eqb-isnt (v .pid) q h (sym r))) (λ i. refl)) e
-pub end-old-ends : (us : List Worker) (x : Name) (n : ℕ) (s : System) (q : ℕ) (w : Worker) → Apart us → Apart (s .workers) → find us q ≡ some w → old x n w ≡ true → find (end-old us x n s .workers) q ≡ none
-end-old-ends [] x n s q w u t e f = absurd (none-some e)
-end-old-ends (v ∷ us) x n s q w u t e f = cond-all (λ o. o ≡ some w → find (end-old us x n (cond (old x n v) (ended s v (v-atom a-old)) s) .workers) q ≡ none) (eqb (v .pid) q) (some v) (find us q)
-  (λ h d. let z : v ≡ w = some-is d in let i = eqb-is (v .pid) q h in end-old-keeps us x n (cond (old x n v) (ended s v (v-atom a-old)) s) q (subst (λ (i : ℕ). find us i ≡ none) i (u .0)) ∙ ap (λ (t : System). find (t .workers) q) (cond-true (old x n v) (ended s v (v-atom a-old)) s (ap (old x n) z ∙ f)) ∙ subst (λ (i : ℕ). find (gone (s .workers) (v .pid)) i ≡ none) i (find-gone-same (s .workers) (v .pid) t))
-  (λ h d. end-old-ends us x n (cond (old x n v) (ended s v (v-atom a-old)) s) q w (u .1) (cond-all (λ (r : System). Apart (r .workers)) (old x n v) (ended s v (v-atom a-old)) s (λ i. apart-gone (s .workers) (v .pid) t) (λ i. t)) d f) e
-pub end-old-loaded : (us : List Worker) (x : Name) (n : ℕ) (s : System) → end-old us x n s .loaded ≡ s .loaded
-end-old-loaded [] x n s = refl
-end-old-loaded (u ∷ us) x n s = end-old-loaded us x n (cond (old x n u) (ended s u (v-atom a-old)) s) ∙ cond-all (λ (t : System). t .loaded ≡ s .loaded) (old x n u) (ended s u (v-atom a-old)) s (λ i. refl) (λ i. refl)
+pub end-old-all : (P : System → Type 0) → ((t : System) (w : Worker) → P t → P (ended t w (v-atom a-old))) → (us : List Worker) (x : Name) (n : ℕ) (s : System) → P s → P (end-old us x n s)
+end-old-all P step [] x n s h = h
+end-old-all P step (u ∷ us) x n s h = end-old-all P step us x n (cond (old x n u) (ended s u (v-atom a-old)) s) (cond-all P (old x n u) (ended s u (v-atom a-old)) s (λ e. step s u h) (λ e. h))
+pub swapped-all : (P : System → Type 0) → ((t : System) (w : Worker) → P t → P (ended t w (v-atom a-old))) → (s : System) (x : Name) (n : ℕ) → P (with-version s x (n + 1)) → P (swapped s x n)
+swapped-all P step s x n h = end-old-all P step (s .workers) x n (with-version s x (n + 1)) h
+pub swapped-loaded : (s : System) (x : Name) (n : ℕ) → swapped s x n .loaded ≡ now-loaded (s .loaded) x (n + 1)
+swapped-loaded s x n = swapped-all (λ t. t .loaded ≡ now-loaded (s .loaded) x (n + 1)) (λ t w h. h) s x n refl
+pub swapped-next : (s : System) (x : Name) (n : ℕ) → swapped s x n .next ≡ s .next
+swapped-next s x n = swapped-all (λ t. t .next ≡ s .next) (λ t w h. h) s x n refl
+-- whoever is there after a swap was there before
+pub swapped-sub : (s : System) (x : Name) (n : ℕ) → Apart (s .workers) → Sub (swapped s x n .workers) (s .workers)
+swapped-sub s x n a = swapped-all (λ t. Apart (t .workers) × Sub (t .workers) (s .workers)) (λ t w h. (apart-gone (t .workers) (w .pid) (h .0), λ q y e. h .1 q y (gone-sub (t .workers) (w .pid) (h .0) q y e))) s x n (a, λ q y e. e) .1
+-- who is spared, and who ends
+end-old-spares : (us : List Worker) (x : Name) (n : ℕ) (s : System) (q : ℕ) → Apart us → ((w : Worker) → find us q ≡ some w → old x n w ≡ false) → find (end-old us x n s .workers) q ≡ find (s .workers) q
+end-old-spares [] x n s q a h = refl
+end-old-spares (u ∷ us) x n s q a h = elim (either (u .pid) q) [
+    inl e ↦ end-old-spares us x n (cond (old x n u) (ended s u (v-atom a-old)) s) q (a .1) (λ w f. absurd (none-some (sym (find-apart u us q a e) ∙ f))) ∙ ap (λ (t : System). find (t .workers) q) (cond-false (old x n u) (ended s u (v-atom a-old)) s (h u (find-here u us q e)))
+  | inr d ↦ end-old-spares us x n (cond (old x n u) (ended s u (v-atom a-old)) s) q (a .1) (λ w f. h w (find-there u us q d ∙ f)) ∙ cond-all (λ (t : System). find (t .workers) q ≡ find (s .workers) q) (old x n u) (ended s u (v-atom a-old)) s (λ i. find-gone-other (s .workers) (u .pid) q (λ r. d (sym r))) (λ i. refl) ]
+end-old-ends : (us : List Worker) (x : Name) (n : ℕ) (s : System) (q : ℕ) (w : Worker) → Apart us → Apart (s .workers) → find us q ≡ some w → old x n w ≡ true → find (end-old us x n s .workers) q ≡ none
+end-old-ends [] x n s q w a b e o = absurd (none-some e)
+end-old-ends (u ∷ us) x n s q w a b e o = elim (either (u .pid) q) [
+    inl i ↦ let z : u ≡ w = some-is (sym (find-here u us q i) ∙ e) in
+      end-old-spares us x n (cond (old x n u) (ended s u (v-atom a-old)) s) q (a .1) (λ v f. absurd (none-some (sym (find-apart u us q a i) ∙ f))) ∙ ap (λ (t : System). find (t .workers) q) (cond-true (old x n u) (ended s u (v-atom a-old)) s (ap (old x n) z ∙ o)) ∙ subst (λ (j : ℕ). find (gone (s .workers) (u .pid)) j ≡ none) i (find-gone-same (s .workers) (u .pid) b)
+  | inr d ↦ end-old-ends us x n (cond (old x n u) (ended s u (v-atom a-old)) s) q w (a .1) (cond-all (λ (t : System). Apart (t .workers)) (old x n u) (ended s u (v-atom a-old)) s (λ i. apart-gone (s .workers) (u .pid) b) (λ i. b)) (sym (find-there u us q d) ∙ e) o ]
+pub swapped-spares : (s : System) (x : Name) (n q : ℕ) (w : Worker) → Apart (s .workers) → find (s .workers) q ≡ some w → old x n w ≡ false → find (swapped s x n .workers) q ≡ some w
+swapped-spares s x n q w a e o = end-old-spares (s .workers) x n (with-version s x (n + 1)) q a (λ v f. ap (old x n) (some-is (sym f ∙ e)) ∙ o) ∙ e
+pub swapped-ends : (s : System) (x : Name) (n q : ℕ) (w : Worker) → Apart (s .workers) → find (s .workers) q ≡ some w → old x n w ≡ true → find (swapped s x n .workers) q ≡ none
+swapped-ends s x n q w a e o = end-old-ends (s .workers) x n (with-version s x (n + 1)) q w a a e o
+pub swapped-not-old : (s : System) (x : Name) (n q : ℕ) (w : Worker) → Apart (s .workers) → find (swapped s x n .workers) q ≡ some w → (find (s .workers) q ≡ some w) × (old x n w ≡ false)
+swapped-not-old s x n q w a e = let f = swapped-sub s x n a q w e in (f, is-false (old x n w) (λ t. none-some (sym (swapped-ends s x n q w a f (is-true (old x n w) t)) ∙ e)))
 pub current-now : (ls : List Loaded) (x : Name) (m n : ℕ) → current ls x ≡ some n → current (now-loaded ls x m) x ≡ some m
 current-now [] x m n e = absurd (none-some e)
 current-now (l ∷ ls) x m n e = bool-all (λ b. same (l .name) x ≡ b → cond b (some (l .version)) (current ls x) ≡ some n → current (cond b (record { name = x; version = m } ∷ ls) (l ∷ now-loaded ls x m)) x ≡ some m) (same (l .name) x)
   (λ h i d. cond-true (same x x) (some m) (current ls x) (same-refl x))
   (λ h i d. cond-false (same (l .name) x) (some (l .version)) (current (now-loaded ls x m) x) h ∙ current-now ls x m n d) refl e
-pub swapped-loaded : (s : System) (x : Name) (m : ℕ) → current (s .loaded) x ≡ some m → s .loaded ≡ swapped s x m .loaded → ⊥
-swapped-loaded s x m e d = let a : current (swapped s x m .loaded) x ≡ some (m + 1) = ap (λ (l : List Loaded). current l x) (end-old-loaded (s .workers) x m (with-version s x (m + 1))) ∙ current-now (s .loaded) x (m + 1) m e in let b : m ≡ m + 1 = some-is (sym e ∙ ap (λ (l : List Loaded). current l x) d ∙ a) in omega arith
-pub end-old-sub : (us : List Worker) (x : Name) (n : ℕ) (s : System) → Apart (s .workers) → Sub (end-old us x n s .workers) (s .workers)
-end-old-sub [] x n s u q y e = e
-end-old-sub (v ∷ us) x n s u q y e = cond-all (λ (t : System). Apart (t .workers) → Sub (t .workers) (s .workers) → find (end-old us x n t .workers) q ≡ some y → find (s .workers) q ≡ some y) (old x n v) (ended s v (v-atom a-old)) s
-  (λ h a b d. b q y (end-old-sub us x n (ended s v (v-atom a-old)) a q y d)) (λ h a b d. b q y (end-old-sub us x n s a q y d))
-  (cond-all (λ (t : System). Apart (t .workers)) (old x n v) (ended s v (v-atom a-old)) s (λ h. apart-gone (s .workers) (v .pid) u) (λ h. u))
-  (cond-all (λ (t : System). Sub (t .workers) (s .workers)) (old x n v) (ended s v (v-atom a-old)) s (λ h. gone-sub (s .workers) (v .pid) u) (λ h q y d. d)) e
+pub swapped-loads : (s : System) (x : Name) (n : ℕ) → current (s .loaded) x ≡ some n → s .loaded ≡ swapped s x n .loaded → ⊥
+swapped-loads s x n e d = let b : n ≡ n + 1 = some-is (sym e ∙ ap (λ (l : List Loaded). current l x) (d ∙ swapped-loaded s x n) ∙ current-now (s .loaded) x (n + 1) n e) in omega arith
+
+-- who is told
 
 pub told-waits : (p q : ℕ) (r : Value) (ls : List ℕ) → among q ls ≡ true → Told-of q p r (told p r ls)
 told-waits p q r [] a = no-clash a refl
@@ -67,12 +75,5 @@ end-old-tells (u ∷ us) x n s = bool-all (λ b. old x n u ≡ b → (gs : List 
       (λ c d. waits-left p q (v-atom a-old) mine (r .0) (subst (λ (z : ℕ). Told-of q p (v-atom a-old) (told z (v-atom a-old) (u .links))) (sym (eqb-is (u .pid) p c)) (told-waits p q (v-atom a-old) (u .links) (ap (λ (z : Worker). among q (z .links)) (some-is d) ∙ a))))
       (λ c d. waits-right p q (v-atom a-old) mine (r .0) (r .2 p q w d o a)) e))
   (λ h i. let r = end-old-tells us x n s in (r .0, r .1, λ p q w e o a. cond-all (λ y. y ≡ some w → Told-of q p (v-atom a-old) (r .0)) (eqb (u .pid) p) (some u) (find us p) (λ c d. no-clash o (sym (ap (old x n) (some-is d)) ∙ h)) (λ c d. r .2 p q w d o a) e)) refl
-pub end-old-next : (us : List Worker) (x : Name) (n : ℕ) (s : System) → end-old us x n s .next ≡ s .next
-end-old-next [] x n s = refl
-end-old-next (u ∷ us) x n s = end-old-next us x n (cond (old x n u) (ended s u (v-atom a-old)) s) ∙ cond-all (λ (t : System). t .next ≡ s .next) (old x n u) (ended s u (v-atom a-old)) s (λ i. refl) (λ i. refl)
-pub end-old-clock : (us : List Worker) (x : Name) (n : ℕ) (s : System) → end-old us x n s .clock ≡ s .clock
-end-old-clock [] x n s = refl
-end-old-clock (u ∷ us) x n s = end-old-clock us x n (cond (old x n u) (ended s u (v-atom a-old)) s) ∙ cond-all (λ (t : System). t .clock ≡ s .clock) (old x n u) (ended s u (v-atom a-old)) s (λ i. refl) (λ i. refl)
--- who is there after a swap wasn't old
-pub spared : (s : System) (x : Name) (m q : ℕ) (y : Worker) → Apart (s .workers) → find (swapped s x m .workers) q ≡ some y → (find (s .workers) q ≡ some y) × (old x m y ≡ false)
-spared s x m q y u e = let f = end-old-sub (s .workers) x m (with-version s x (m + 1)) u q y e in (f, is-false (old x m y) (λ t. none-some (sym (end-old-ends (s .workers) x m (with-version s x (m + 1)) q y u u f (is-true (old x m y) t)) ∙ e)))
+pub swapped-tells : (s : System) (x : Name) (n : ℕ) → (gs : List Signal) × (swapped s x n .signals ≡ s .signals ++ gs) × ((p q : ℕ) (w : Worker) → find (s .workers) p ≡ some w → old x n w ≡ true → among q (w .links) ≡ true → Told-of q p (v-atom a-old) gs)
+swapped-tells s x n = end-old-tells (s .workers) x n (with-version s x (n + 1))

@@ -1,5 +1,4 @@
 -- The first time for which somebody waits: somebody waits for it, and nobody for an earlier one.
-use Rattle.meaning.proofs.Finding.{find-behind}
 use mathlib.Core.Path.{_≡_, refl, sym, ap, subst, _∙_}
 use mathlib.Core.Bool.{Bool, not, cond}
 use mathlib.Core.List.{List, [], _∷_}
@@ -11,8 +10,8 @@ use Rattle.meaning.specs.Basics.{opt}
 use Rattle.meaning.specs.Syntax.{Program}
 use Rattle.meaning.specs.System.{Worker, find, Apart, System, with-clock}
 use Rattle.meaning.specs.Moves.{time-of, sooner, first-time, move, tick, is, not-allowed}
+use Rattle.meaning.proofs.Finding.{find-behind, find-here}
 use Rattle.meaning.proofs.Splits.{T-of, cond-all, bool-all, some-is, none-some, cond-true, is-true}
-use Rattle.meaning.proofs.Finding.{find-here}
 
 -- the first time for which somebody waits
 pub first-below : (ws : List Worker) (q t : ℕ) (w : Worker) → find ws q ≡ some w → time-of (w .control) ≡ some t → (i : ℕ) × (first-time ws ≡ some i) × (i ≤ t)

@@ -3,25 +3,25 @@ use mathlib.Core.Path.{_≡_, refl, sym, ap, subst, _∙_}
 use mathlib.Core.Logic.{inl}
 use mathlib.Core.Bool.{Bool, true, false, _&&_, _||_, not, cond}
 use mathlib.Core.List.{List, [], _∷_, _++_}
-use mathlib.Core.Option.{Option, some, none}
+use mathlib.Core.Option.{Option, some}
 use Prim.Native.Nat.{ℕ, _+_, _-_, _≤_}
 use native.Mathlib.Omega.{arith}
-use lib.Dec.{eqb, ltb, T, ltb→lt, nltb→le}
+use lib.Dec.{ltb, T, ltb→lt, nltb→le}
 use Rattle.meaning.specs.Basics.{opt, Name, same}
-use Rattle.meaning.specs.Atoms.{a-main, a-normal}
+use Rattle.meaning.specs.Atoms.{a-main}
 use Rattle.meaning.specs.Syntax.{Program}
-use Rattle.meaning.specs.Values.{v-atom, sameV}
-use Rattle.meaning.specs.System.{Scope, Control, eval, give, enter, fail, wait, Frame, operands-frame, bind-frame, case-frame, until-frame, catch-frame, Worker, Signal, Loaded, System, with-signals, find, change, set-control, gone, ended, current, now-loaded, old-control, old-frame, old-frames, old, with-version, Apart, swapped}
+use Rattle.meaning.specs.System.{Control, eval, give, enter, fail, wait, Frame, operands-frame, bind-frame, case-frame, until-frame, catch-frame, Worker, Loaded, System, with-signals, find, change, set-control, gone, current, now-loaded, old-control, old-frame, old-frames, old, Apart, swapped}
 use Rattle.meaning.specs.Turns.{Outcome, enter-function}
-use Rattle.meaning.specs.Moves.{Move, turn, signal, tick, Result, is, not-allowed, no-meaning, settle, take-signal, deliver, move, first-versions, first-name}
+use Rattle.meaning.specs.Moves.{Move, turn, signal, tick, settle, take-signal, move, first-versions, first-name}
 use Rattle.meaning.specs.Promise.{Reached, Two-versions, ahead-control, ahead-frame, ahead-frames, None-ahead}
-use Rattle.meaning.specs.Effects.{Effect, nothing, sent, spawned, linked-gone, exited, linked, trapped, showed, named, took, Turned, turn-goes, turn-ends, turn-swaps, turn-swapped-out, turn-stuck}
+use Rattle.meaning.specs.Effects.{Turned, turn-goes, turn-ends, turn-swaps, turn-swapped-out, turn-stuck}
 use Rattle.meaning.proofs.Splits.{T-of, is-false, no-clash, cond-all, opt-all, cond-false, bool-all, some-is, none-some, same-is, same-refl, OnSome, or-no}
 use Rattle.meaning.proofs.Links.{SoundS, move-sound, first-sound}
 use Rattle.meaning.proofs.OwnCode.{HasAll, sub-all, settle-all, soft-all, Next, AllC, AllF, AllK, code-all, turn-versions}
-use Rattle.meaning.proofs.Finding.{gone-sub}
-use Rattle.meaning.proofs.Results.{OnIs, turn-all, tick-all, at-first, reached-all}
-use Rattle.meaning.proofs.Swapping.{end-old-loaded, current-now, spared}
+use Rattle.meaning.proofs.Finding.{gone-sub, only}
+use Rattle.meaning.proofs.Results.{OnIs, turn-all, tick-all, at-first, reached-all, deliver-all, take-signal-all, on-both, first-worker}
+use Rattle.meaning.proofs.Swapping.{current-now, swapped-loaded, swapped-not-old}
+use Rattle.meaning.proofs.Effects.{effect-bounds}
 
 abbrev pub Span : List Loaded → Name → ℕ → Type 0
 Span ls h v = (n : ℕ) → current ls h ≡ some n → (n ≤ v + 1) × (v ≤ n)
@@ -29,17 +29,6 @@ abbrev pub AllSys : (Name → ℕ → Type 0) → List Worker → Type 0
 AllSys Q ws = HasAll (AllC Q) (AllK Q) ws
 span-now : (ls : List Loaded) (m : Name) (n : ℕ) → current ls m ≡ some n → Span ls m n
 span-now ls m n e i d = let z : n ≡ i = some-is (sym e ∙ d) in (omega arith, omega arith)
-did-loaded : (g : Program) (s : System) (w : Scope) (me : ℕ) (t : System) → Effect g s w me t → t .loaded ≡ s .loaded
-did-loaded g s w me t nothing = refl
-did-loaded g s w me t (sent q v) = refl
-did-loaded g s w me t (spawned c f) = refl
-did-loaded g s w me t (linked-gone p d f) = refl
-did-loaded g s w me t (exited p r) = refl
-did-loaded g s w me t (linked q x d f) = refl
-did-loaded g s w me t (trapped b) = refl
-did-loaded g s w me t (showed l) = refl
-did-loaded g s w me t (named x) = refl
-did-loaded g s w me t (took ms) = refl
 
 -- a version that is not old stays within the span when the next one becomes current
 current-other : (ls : List Loaded) (x y : Name) (m : ℕ) → same y x ≡ false → current (now-loaded ls x m) y ≡ current ls y
@@ -76,30 +65,24 @@ module _ (ls : List Loaded) (x : Name) (m : ℕ) (e : current ls x ≡ some m) w
 abbrev pub VerS : System → Type 0
 VerS s = AllSys (Span (s .loaded)) (s .workers)
 swap-versions : (s : System) (x : Name) (m : ℕ) → Apart (s .workers) → current (s .loaded) x ≡ some m → VerS s → AllSys (Span (now-loaded (s .loaded) x (m + 1))) (swapped s x m .workers)
-swap-versions s x m u e h q y d = let r = spared s x m q y u d in shiftW (s .loaded) x m e y (h q y (r .0)) (r .1)
+swap-versions s x m u e h q y d = let r = swapped-not-old s x m q y u d in shiftW (s .loaded) x m e y (h q y (r .0)) (r .1)
 now-after : (s : System) (x : Name) (m : ℕ) → current (s .loaded) x ≡ some m → (h : Name) (n : ℕ) → current (s .loaded) h ≡ some n → Span (now-loaded (s .loaded) x (m + 1)) h n
 now-after s x m e h n d = shift (s .loaded) x m h n e (span-now (s .loaded) h n d) (bool-all (λ b. same h x ≡ b → (b && ltb n m) ≡ false) (same h x) (λ i j. let z : n ≡ m = some-is (sym d ∙ subst (λ (u : Name). current (s .loaded) u ≡ some m) (sym (same-is h x (T-of i))) e) in is-false (ltb n m) (λ t. let y = ltb→lt n m t in omega arith)) (λ i j. refl) refl)
 Going : Program → System → Worker → Outcome → Type 1
 Going g s me o = (Q : Name → ℕ → Type 0) → ((m : Name) (n : ℕ) → current (s .loaded) m ≡ some n → Q m n) → AllC Q (me .control) → AllK Q (me .frames) → Next (AllC Q) (AllK Q) (Unit {0}) s o
 turned-versions : (g : Program) (s : System) (n : ℕ) (me : Worker) (o : Outcome) → Apart (s .workers) → find (s .workers) (me .pid) ≡ some me → Turned g s me o → Going g s me o → VerS s → OnIs VerS (settle n o)
 unfolding Going
-turned-versions g s n me o u e (turn-goes c k w {t} d) go h = let mine = h (me .pid) me e in let r = go (Span (s .loaded)) (span-now (s .loaded)) (mine .0) (mine .1) in subst (λ (ls : List Loaded). AllSys (Span ls) (change (t .workers) n (set-control c k))) (sym (did-loaded g s w (me .pid) t d)) (settle-all (AllC (Span (s .loaded))) (AllK (Span (s .loaded))) s t n c k tt (r .2) h (r .0) (r .1))
+turned-versions g s n me o u e (turn-goes c k w {t} d) go h = let mine = h (me .pid) me e in let r = go (Span (s .loaded)) (span-now (s .loaded)) (mine .0) (mine .1) in subst (λ (ls : List Loaded). AllSys (Span ls) (change (t .workers) n (set-control c k))) (sym (effect-bounds g s w (me .pid) t d .0)) (settle-all (AllC (Span (s .loaded))) (AllK (Span (s .loaded))) s t n c k tt (r .2) h (r .0) (r .1))
 turned-versions g s n me o u e (turn-ends r why) go h = sub-all (AllC (Span (s .loaded))) (AllK (Span (s .loaded))) (gone (s .workers) (me .pid)) (s .workers) (gone-sub (s .workers) (me .pid) u) h
-turned-versions g s n me o u e (turn-swaps c k x m y d f wo) go h = let Q = Span (now-loaded (s .loaded) x (m + 1)) in let mine = spared s x m (me .pid) y u f in let same-me : y ≡ me = some-is (sym (mine .0) ∙ e) in let mine2 = shiftW (s .loaded) x m d me (h (me .pid) me e) (ap (old x m) (sym same-me) ∙ mine .1) in let r = go Q (now-after s x m d) (mine2 .0) (mine2 .1) in
-  subst (λ (ls : List Loaded). AllSys (Span ls) (change (swapped s x m .workers) n (set-control c k))) (sym (end-old-loaded (s .workers) x m (with-version s x (m + 1)))) (settle-all (AllC Q) (AllK Q) (swapped s x m) (swapped s x m) n c k tt (λ q z i. inl (z, i, refl, refl)) (swap-versions s x m u d h) (r .0) (r .1))
-turned-versions g s n me o u e (turn-swapped-out x m d f wo) go h = subst (λ (ls : List Loaded). AllSys (Span ls) (swapped s x m .workers)) (sym (end-old-loaded (s .workers) x m (with-version s x (m + 1)))) (swap-versions s x m u d h)
+turned-versions g s n me o u e (turn-swaps c k x m y d f wo) go h = let Q = Span (now-loaded (s .loaded) x (m + 1)) in let mine = swapped-not-old s x m (me .pid) y u f in let same-me : y ≡ me = some-is (sym (mine .0) ∙ e) in let mine2 = shiftW (s .loaded) x m d me (h (me .pid) me e) (ap (old x m) (sym same-me) ∙ mine .1) in let r = go Q (now-after s x m d) (mine2 .0) (mine2 .1) in
+  subst (λ (ls : List Loaded). AllSys (Span ls) (change (swapped s x m .workers) n (set-control c k))) (sym (swapped-loaded s x m)) (settle-all (AllC Q) (AllK Q) (swapped s x m) (swapped s x m) n c k tt (λ q z i. inl (z, i, refl, refl)) (swap-versions s x m u d h) (r .0) (r .1))
+turned-versions g s n me o u e (turn-swapped-out x m d f wo) go h = subst (λ (ls : List Loaded). AllSys (Span ls) (swapped s x m .workers)) (sym (swapped-loaded s x m)) (swap-versions s x m u d h)
 turned-versions g s n me o u e turn-stuck go h = tt
-soft-loaded : (s : System) (g : Signal) (w : Worker) → take-signal s g w .loaded ≡ s .loaded
-soft-loaded s g w = cond-all (λ (t : System). t .loaded ≡ s .loaded) (w .traps) _ _ (λ e. refl) (λ e. cond-all (λ (t : System). t .loaded ≡ s .loaded) (sameV (g .reason) (v-atom a-normal)) _ (ended s w (g .reason)) (λ d. refl) (λ d. refl))
--- where what is loaded stays, a property of the workers is one of the system
-deliver-versions : (s : System) (gs : List Signal) → Apart (s .workers) → VerS s → OnIs VerS (deliver s gs)
-deliver-versions s [] u h = tt
-deliver-versions s (g ∷ gs) u h = opt-all (OnIs VerS) (find (s .workers) (g .to)) (is (with-signals s gs)) (λ w. is (take-signal (with-signals s gs) g w)) (λ e. h) (λ w e. subst (λ (ls : List Loaded). AllSys (Span ls) (take-signal (with-signals s gs) g w .workers)) (sym (soft-loaded (with-signals s gs) g w)) (soft-all (AllC (Span (s .loaded))) (AllK (Span (s .loaded))) (with-signals s gs) g w u h))
 move-versions : (g : Program) (s : System) (m : Move) → Apart (s .workers) → VerS s → OnIs VerS (move g s m)
 unfolding Going
 move-versions g s (turn n) u h = turn-all g s n (OnIs VerS) tt (λ me o p e d v. turned-versions g s n me o u e v (λ Q now pc pk. subst (OnSome (Next (AllC Q) (AllK Q) (Unit {0}) s)) d (turn-versions g s Q now u me pc pk)) h)
-move-versions g s signal u h = deliver-versions s (s .signals) u h
-move-versions g s tick u h = tick-all VerS (Unit {0}) s (λ t. h)
+move-versions g s signal u h = deliver-all VerS (Unit {0}) s (s .signals) (λ x gs i. h) (λ x gs w i e. subst (λ (ls : List Loaded). AllSys (Span ls) (take-signal (with-signals s gs) x w .workers)) (sym (take-signal-all (λ t. t .loaded ≡ s .loaded) (with-signals s gs) x w refl refl refl)) (soft-all (AllC (Span (s .loaded))) (AllK (Span (s .loaded))) (with-signals s gs) x w u h))
+move-versions g s tick u h = tick-all VerS (Unit {0}) s (λ t l. h)
 -- at first every module is in version 1
 abbrev Ones : List Loaded → Type 0
 Ones [] = Unit {0}
@@ -114,14 +97,10 @@ ones-current : (ls : List Loaded) (x : Name) (n : ℕ) → Ones ls → current l
 ones-current [] x n h e = absurd (none-some e)
 ones-current (l ∷ ls) x n h e = cond-all (λ o. o ≡ some n → n ≡ 1) (same (l .name) x) (some (l .version)) (current ls x) (λ i d. sym (some-is d) ∙ h .0) (λ i d. ones-current ls x n (h .1) d) e
 first-spans : (g : Program) (c : Control) → enter-function g (first-name g) 1 a-main [] ≡ some c → VerS (at-first g c)
-first-spans g c e q x d = cond-all (λ o. o ≡ some x → AllC (Span (first-versions g [])) (x .control) × AllK (Span (first-versions g [])) (x .frames)) (eqb 0 q) (some (record { pid = 0; control = c; frames = []; mail = []; links = []; traps = false })) none
-  (λ h f. subst (λ (z : Worker). AllC (Span (first-versions g [])) (z .control) × AllK (Span (first-versions g [])) (z .frames)) (some-is f) (code-all (Span (first-versions g [])) g (first-name g) 1 a-main [] c e (λ n i. let z = ones-current (first-versions g []) (first-name g) n (ones-firsts g [] tt) i in (omega arith, omega arith)), tt)) (λ h f. absurd (none-some f)) d
-keep-both : (r : Result) → OnIs SoundS r → OnIs VerS r → OnIs (λ t. SoundS t × VerS t) r
-keep-both (is t) p q = (p, q)
-keep-both not-allowed p q = tt
-keep-both no-meaning p q = tt
+first-spans g c e q x d = subst (λ (z : Worker). AllC (Span (first-versions g [])) (z .control) × AllK (Span (first-versions g [])) (z .frames)) (only (first-worker c) x q d .1)
+  (code-all (Span (first-versions g [])) g (first-name g) 1 a-main [] c e (λ n i. let z = ones-current (first-versions g []) (first-name g) n (ones-firsts g [] tt) i in (omega arith, omega arith)), tt)
 pub reached-versions : (g : Program) (l : List Move) (s : System) → Reached g l s → VerS s
-reached-versions g l s r = reached-all g (λ t. SoundS t × VerS t) (λ c e. (first-sound g c, first-spans g c e)) (λ t m h. keep-both (move g t m) (move-sound g t m (h .0)) (move-versions g t m (h .0 .apart) (h .1))) l s r .1
+reached-versions g l s r = reached-all g (λ t. SoundS t × VerS t) (λ c e. (first-sound g c, first-spans g c e)) (λ t m h. on-both SoundS VerS (Unit {0}) (move g t m) (move-sound g t m (h .0)) (move-versions g t m (h .0 .apart) (h .1))) l s r .1
 
 -- E
 not-old : (ls : List Loaded) (x : Name) (n : ℕ) (h : Name) (v : ℕ) → current ls x ≡ some n → Span ls h v → (same h x && ltb v (n - 1)) ≡ false

@@ -15,7 +15,7 @@ use Rattle.meaning.specs.Fair.{Could}
 use Rattle.meaning.specs.Scheduler.{Woken, alive, Numbered, Good, next, Entry, worker, serve, here, Mem}
 use Rattle.meaning.proofs.Queue.{behind, could-not-gone, At-none, Mem-cases}
 use Rattle.meaning.proofs.Finding.{find-here, find-there, Keeps, find-change-other, find-changed, find-append-some, find-append-none, find-gone-other}
-use Rattle.meaning.proofs.Ready.{can-is, ready, due, has, has-front}
+use Rattle.meaning.proofs.Ready.{can-is, ready, due, has, has-front, can-same}
 use Rattle.meaning.proofs.Splits.{either, some-or-none, impossible}
 use Rattle.meaning.proofs.Alive.{alive-same}
 
@@ -33,7 +33,7 @@ woken-one g n s t p d c f h = record { once = ((λ m. At-none (m .1)), tt); each
     two q e b (inr y) = inl (h q e y b)
 -- whoever is found as before can as before
 pub same-could : (g : Program) (s t : System) (q : ℕ) → t .clock ≡ s .clock → find (t .workers) q ≡ find (s .workers) q → Could g t q → Could g s q
-same-could g s t q e h (w, f, c) = (w, sym h ∙ f, can-is g s w ∙ ap (λ z. ready z (w .control) (w .mail)) (sym e) ∙ sym (can-is g t w) ∙ c)
+same-could g s t q e h (w, f, c) = (w, sym h ∙ f, sym (can-same g s t w w e refl refl) ∙ c)
 
 -- nobody but n is seen changed
 pub woken-same : (g : Program) (n : ℕ) (s t : System) → t .clock ≡ s .clock → ((q : ℕ) → (q ≡ n → ⊥) → find (t .workers) q ≡ find (s .workers) q) → Woken g n s t []
