@@ -10,7 +10,7 @@ use Rattle.meaning.specs.Syntax.{Program}
 use Rattle.meaning.specs.System.{Worker, System, find}
 use Rattle.meaning.specs.Fair.{Could}
 use Rattle.meaning.specs.Scheduler.{Entry, round, worker, Mem, Kept, end, keep, leave, alive, here}
-use Rattle.meaning.proofs.Queue.{At-none, Mem-cases, behind, could-not-gone}
+use Rattle.meaning.proofs.Queue.{At-none, Mem-cases, Mem-behind, could-not-gone}
 use Rattle.meaning.proofs.Past.{Past}
 use Rattle.meaning.proofs.Splits.{impossible}
 
@@ -25,14 +25,14 @@ alive-kept s (worker p ∷ es) = go (find (s .workers) p) refl (alive-kept s es)
     go (some w) e ih = keep ih
 
 -- those that became able by a move, but for n
-pub alive-not : (t : System) (es : List Entry) (q : ℕ) → Mem (worker q) (alive t es) → find (t .workers) q ≡ none → ⊥
-alive-not t [] q m e = At-none (m .1)
-alive-not t (round ∷ es) q m e = go (Mem-cases m) (λ a. alive-not t es q a e)
+pub alive-there : (t : System) (es : List Entry) (q : ℕ) → Mem (worker q) (alive t es) → find (t .workers) q ≡ none → ⊥
+alive-there t [] q m e = At-none (m .1)
+alive-there t (round ∷ es) q m e = go (Mem-cases m) (λ a. alive-there t es q a e)
   where
     go : (worker q ≡ round) ⊎ Mem (worker q) (alive t es) → (Mem (worker q) (alive t es) → ⊥) → ⊥
     go (inl d) ih = impossible (cc)
     go (inr a) ih = ih a
-alive-not t (worker p ∷ es) q m e = go (find (t .workers) p) refl m (λ a. alive-not t es q a e)
+alive-there t (worker p ∷ es) q m e = go (find (t .workers) p) refl m (λ a. alive-there t es q a e)
   where
     go : (o : Option Worker) → find (t .workers) p ≡ o → Mem (worker q) (opt o (alive t es) (λ w. worker p ∷ alive t es)) → (Mem (worker q) (alive t es) → ⊥) → ⊥
     go none d a ih = ih a
@@ -45,8 +45,8 @@ alive-not t (worker p ∷ es) q m e = go (find (t .workers) p) refl m (λ a. ali
 -- nobody in the queue ends: the queue stays as it is
 pub alive-same : (t : System) (es : List Entry) → ((q : ℕ) → Mem (worker q) es → find (t .workers) q ≡ none → ⊥) → alive t es ≡ es
 alive-same t [] h = refl
-alive-same t (round ∷ es) h = ap (λ z. round ∷ z) (alive-same t es (λ q m. h q (behind round m)))
-alive-same t (worker p ∷ es) h = go (find (t .workers) p) refl (alive-same t es (λ q m. h q (behind (worker p) m)))
+alive-same t (round ∷ es) h = ap (λ z. round ∷ z) (alive-same t es (λ q m. h q (Mem-behind round m)))
+alive-same t (worker p ∷ es) h = go (find (t .workers) p) refl (alive-same t es (λ q m. h q (Mem-behind (worker p) m)))
   where
     go : (o : Option Worker) → find (t .workers) p ≡ o → alive t es ≡ es → opt o (alive t es) (λ w. worker p ∷ alive t es) ≡ worker p ∷ es
     go none e ih = absurd (h p (zero, here) e)
@@ -63,11 +63,11 @@ alive-append t (worker q ∷ r) new = go (find (t .workers) q) (alive-append t r
     go (some w) ih = ap (λ z. worker q ∷ z) ih
 
 -- a queue may hold numbers of those that are no more: they are passed over, then and later
-abbrev pub Low : ℕ → List Entry → Type 0
-Low n [] = Unit {0}
-Low n (round ∷ es) = Low n es
-Low n (worker p ∷ es) = (p < n) × Low n es
-pub alive-later : (n : ℕ) (s t : System) → Past n s t → (r : List Entry) → Low (s .next) r → alive t (alive s r) ≡ alive t r
+abbrev pub Numbers-below : ℕ → List Entry → Type 0
+Numbers-below n [] = Unit {0}
+Numbers-below n (round ∷ es) = Numbers-below n es
+Numbers-below n (worker p ∷ es) = (p < n) × Numbers-below n es
+pub alive-later : (n : ℕ) (s t : System) → Past n s t → (r : List Entry) → Numbers-below (s .next) r → alive t (alive s r) ≡ alive t r
 alive-later n s t p [] l = refl
 alive-later n s t p (round ∷ r) l = ap (λ z. round ∷ z) (alive-later n s t p r l)
 alive-later n s t p (worker q ∷ r) l = go (find (s .workers) q) refl (alive-later n s t p r (l .1))

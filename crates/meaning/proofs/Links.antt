@@ -16,7 +16,7 @@ use Rattle.meaning.specs.Promise.{Reached, Links-both}
 use Rattle.meaning.specs.Effects.{Effect, nothing, sent, spawned, linked-gone, exited, linked, trapped, showed, named, took, Turned, turn-goes, turn-ends, turn-swaps, turn-swapped-out, turn-stuck}
 use Rattle.meaning.specs.Scheduler.{Numbered}
 use Rattle.meaning.proofs.Splits.{no-clash, cond-all, bool-all, eqb-no, eqb-yes, eqb-is}
-use Rattle.meaning.proofs.Finding.{Keeps, apart-change, apart-gone, apart-new, Sub, back, gone-sub, new-back, only}
+use Rattle.meaning.proofs.Finding.{Keeps-number, apart-change, apart-gone, apart-new, Within, found-before-change, gone-within, found-before-new, find-only}
 use Rattle.meaning.proofs.Results.{OnIs, turn-all, reached-all, at-first, take-signal-all, deliver-all, tick-all, first-worker}
 use Rattle.meaning.proofs.Swapping.{swapped-all}
 
@@ -35,7 +35,7 @@ among-gone x (y ∷ ls) = bool-all (λ b. eqb x y ≡ b → among x (cond b (wit
   (λ e r. among-gone x ls)
   (λ e r. ap (λ (b : Bool). b || among x (without x ls)) e ∙ among-gone x ls) refl
 -- what add-link does to links
-pub add-link-keeps : (n : ℕ) → Keeps (add-link n)
+pub add-link-keeps : (n : ℕ) → Keeps-number (add-link n)
 add-link-keeps n w = cond-all (λ x. x .pid ≡ w .pid) (among n (w .links)) w (set-links (w .links ++ (n ∷ [])) w) (λ h. refl) (λ h. refl)
 pub add-link-in : (l n : ℕ) (w : Worker) → among l (add-link n w .links) ≡ true → (among l (w .links) ≡ true) ⊎ (l ≡ n)
 add-link-in l n w = cond-all (λ x. among l (x .links) ≡ true → (among l (w .links) ≡ true) ⊎ (l ≡ n)) (among n (w .links)) w (set-links (w .links ++ (n ∷ [])) w) (λ h e. inl e)
@@ -46,41 +46,41 @@ pub add-link-new : (n : ℕ) (w : Worker) → among n (add-link n w .links) ≡ 
 add-link-new n w = cond-all (λ x. among n (x .links) ≡ true) (among n (w .links)) w (set-links (w .links ++ (n ∷ [])) w) (λ h. h) (λ h. among-add n n (w .links) ∙ ap (λ (b : Bool). b || eqb n n) h ∙ eqb-yes n n refl)
 
 -- the invariant, of the workers and the next number
-pub record Sound (ws : List Worker) (next : ℕ) : Type 0 where
+pub record Sound-workers (ws : List Worker) (next : ℕ) : Type 0 where
   pub apart : Apart ws
   pub below : (q : ℕ) (x : Worker) → find ws q ≡ some x → q < next
   pub links-below : (q l : ℕ) (x : Worker) → find ws q ≡ some x → among l (x .links) ≡ true → l < next
   pub both : (p q : ℕ) (x y : Worker) → find ws p ≡ some x → find ws q ≡ some y → among q (x .links) ≡ true → among p (y .links) ≡ true
-abbrev pub SoundS : System → Type 0
-SoundS s = Sound (s .workers) (s .next)
+abbrev pub Sound : System → Type 0
+Sound s = Sound-workers (s .workers) (s .next)
 -- nobody has the next number, or a later one
-pub sound-free : (ws : List Worker) (k : ℕ) → Sound ws k → (q : ℕ) → k ≤ q → find ws q ≡ none
+pub sound-free : (ws : List Worker) (k : ℕ) → Sound-workers ws k → (q : ℕ) → k ≤ q → find ws q ≡ none
 sound-free ws k h q l = go (find ws q) refl
   where
     go : (o : Option Worker) → find ws q ≡ o → find ws q ≡ none
     go none e = e
     go (some x) e = let z = h .below q x e in absurd (omega arith)
-pub sound-numbered : (s : System) → SoundS s → Numbered s
+pub sound-numbered : (s : System) → Sound s → Numbered s
 sound-numbered s h = (h .apart, sound-free (s .workers) (s .next) h)
-pub same-links : (ws : List Worker) (n k : ℕ) (f : Worker → Worker) → Keeps f → ((w : Worker) → f w .links ≡ w .links) → Sound ws k → Sound (change ws n f) k
-same-links ws n k f kp kl h = record {
+pub change-sound : (ws : List Worker) (n k : ℕ) (f : Worker → Worker) → Keeps-number f → ((w : Worker) → f w .links ≡ w .links) → Sound-workers ws k → Sound-workers (change ws n f) k
+change-sound ws n k f kp kl h = record {
     apart = apart-change ws n f kp (h .apart);
-    below = λ q y e. let r = back ws n f kp q y e in h .below q (r .0) (r .1);
+    below = λ q y e. let r = found-before-change ws n f kp q y e in h .below q (r .0) (r .1);
     links-below = λ q l y e a. let r = was q y e in h .links-below q l (r .0) (r .1) (ap (among l) (sym (r .2)) ∙ a);
     both = λ p q x y e d a. let r = was p x e in let t = was q y d in ap (among p) (t .2) ∙ h .both p q (r .0) (t .0) (r .1) (t .1) (ap (among q) (sym (r .2)) ∙ a) }
   where
     was : (q : ℕ) (y : Worker) → find (change ws n f) q ≡ some y → (x : Worker) × (find ws q ≡ some x) × (y .links ≡ x .links)
-    was q y e = let r = back ws n f kp q y e in (r .0, r .1, elim (r .2) [ inl a ↦ ap (λ (z : Worker). z .links) (a .1) | inr a ↦ ap (λ (z : Worker). z .links) (a .1) ∙ kl (r .0) ])
-pub fewer : (vs ws : List Worker) (k : ℕ) → Apart vs → Sub vs ws → Sound ws k → Sound vs k
-fewer vs ws k u sub h = record {
+    was q y e = let r = found-before-change ws n f kp q y e in (r .0, r .1, elim (r .2) [ inl a ↦ ap (λ (z : Worker). z .links) (a .1) | inr a ↦ ap (λ (z : Worker). z .links) (a .1) ∙ kl (r .0) ])
+pub fewer-sound : (vs ws : List Worker) (k : ℕ) → Apart vs → Within vs ws → Sound-workers ws k → Sound-workers vs k
+fewer-sound vs ws k u sub h = record {
     apart = u;
     below = λ q x e. h .below q x (sub q x e);
     links-below = λ q l x e a. h .links-below q l x (sub q x e) a;
     both = λ p q x y e d a. h .both p q x y (sub p x e) (sub q y d) a }
-pub gone-sound : (ws : List Worker) (n k : ℕ) → Sound ws k → Sound (gone ws n) k
-gone-sound ws n k h = fewer (gone ws n) ws k (apart-gone ws n (h .apart)) (gone-sub ws n (h .apart)) h
+pub gone-sound : (ws : List Worker) (n k : ℕ) → Sound-workers ws k → Sound-workers (gone ws n) k
+gone-sound ws n k h = fewer-sound (gone ws n) ws k (apart-gone ws n (h .apart)) (gone-within ws n (h .apart)) h
 -- a new worker, with the next number and no links
-pub new-sound : (ws : List Worker) (k : ℕ) (v : Worker) → v .pid ≡ k → v .links ≡ [] → Sound ws k → Sound (ws ++ (v ∷ [])) (k + 1)
+pub new-sound : (ws : List Worker) (k : ℕ) (v : Worker) → v .pid ≡ k → v .links ≡ [] → Sound-workers ws k → Sound-workers (ws ++ (v ∷ [])) (k + 1)
 new-sound ws k v p n h = record {
     apart = apart-new ws v (subst (λ (z : ℕ). find ws z ≡ none) (sym p) free) (h .apart);
     below = λ q x e. elim (was q x e) [ inl a ↦ let z = h .below q x a in omega arith | inr a ↦ let z = a .0 in omega arith ];
@@ -92,15 +92,15 @@ new-sound ws k v p n h = record {
     no-links : (l : ℕ) (x : Worker) → x ≡ v → among l (x .links) ≡ true → ⊥
     no-links l x e a = no-clash a (ap (λ (z : Worker). among l (z .links)) e ∙ ap (among l) n)
     was : (q : ℕ) (x : Worker) → find (ws ++ (v ∷ [])) q ≡ some x → (find ws q ≡ some x) ⊎ ((q ≡ k) × (x ≡ v))
-    was q x e = elim (new-back ws v q x e) [ inl a ↦ inl a | inr a ↦ inr (a .0 ∙ p, a .1) ]
+    was q x e = elim (found-before-new ws v q x e) [ inl a ↦ inl a | inr a ↦ inr (a .0 ∙ p, a .1) ]
 -- one side of a link made
-add-step : (ws : List Worker) (n a p : ℕ) (y : Worker) → find (change ws n (add-link a)) p ≡ some y → (x : Worker) × (find ws p ≡ some x) × ((l : ℕ) → among l (y .links) ≡ true → (among l (x .links) ≡ true) ⊎ ((p ≡ n) × (l ≡ a))) × ((l : ℕ) → among l (x .links) ≡ true → among l (y .links) ≡ true) × (p ≡ n → among a (y .links) ≡ true)
-add-step ws n a p y e = let r = back ws n (add-link a) (add-link-keeps a) p y e in go (r .0) (r .1) (r .2)
+add-link-step : (ws : List Worker) (n a p : ℕ) (y : Worker) → find (change ws n (add-link a)) p ≡ some y → (x : Worker) × (find ws p ≡ some x) × ((l : ℕ) → among l (y .links) ≡ true → (among l (x .links) ≡ true) ⊎ ((p ≡ n) × (l ≡ a))) × ((l : ℕ) → among l (x .links) ≡ true → among l (y .links) ≡ true) × (p ≡ n → among a (y .links) ≡ true)
+add-link-step ws n a p y e = let r = found-before-change ws n (add-link a) (add-link-keeps a) p y e in go (r .0) (r .1) (r .2)
   where
     go : (x : Worker) → find ws p ≡ some x → ((p ≡ n → ⊥) × (y ≡ x)) ⊎ ((p ≡ n) × (y ≡ add-link a x)) → (x : Worker) × (find ws p ≡ some x) × ((l : ℕ) → among l (y .links) ≡ true → (among l (x .links) ≡ true) ⊎ ((p ≡ n) × (l ≡ a))) × ((l : ℕ) → among l (x .links) ≡ true → among l (y .links) ≡ true) × (p ≡ n → among a (y .links) ≡ true)
     go x d (inl h) = (x, d, λ l b. inl (subst (λ (z : Worker). among l (z .links) ≡ true) (h .1) b), λ l b. subst (λ (z : Worker). among l (z .links) ≡ true) (sym (h .1)) b, λ b. absurd (h .0 b))
     go x d (inr h) = (x, d, λ l b. elim (add-link-in l a x (subst (λ (z : Worker). among l (z .links) ≡ true) (h .1) b)) [ inl c ↦ inl c | inr c ↦ inr (h .0, c) ], λ l b. subst (λ (z : Worker). among l (z .links) ≡ true) (sym (h .1)) (add-link-more l a x b), λ b. subst (λ (z : Worker). among a (z .links) ≡ true) (sym (h .1)) (add-link-new a x))
-pub link-sound : (ws : List Worker) (me q k : ℕ) (u v : Worker) → find ws me ≡ some u → find ws q ≡ some v → Sound ws k → Sound (change (change ws me (add-link q)) q (add-link me)) k
+pub link-sound : (ws : List Worker) (me q k : ℕ) (u v : Worker) → find ws me ≡ some u → find ws q ≡ some v → Sound-workers ws k → Sound-workers (change (change ws me (add-link q)) q (add-link me)) k
 link-sound ws me q k u v fu fv h = record {
     apart = apart-change (change ws me (add-link q)) q (add-link me) (add-link-keeps me) (apart-change ws me (add-link q) (add-link-keeps q) (h .apart));
     below = λ p y e. let r = was p y e in h .below p (r .0) (r .1);
@@ -110,16 +110,16 @@ link-sound ws me q k u v fu fv h = record {
       | inr b ↦ elim b [ inl c ↦ subst (λ (z : ℕ). among z (y .links) ≡ true) (sym (c .0)) (o .5 (c .1)) | inr c ↦ subst (λ (z : ℕ). among z (y .links) ≡ true) (sym (c .0)) (o .4 (c .1)) ] ] }
   where
     was : (p : ℕ) (y : Worker) → find (change (change ws me (add-link q)) q (add-link me)) p ≡ some y → (x : Worker) × (find ws p ≡ some x) × ((l : ℕ) → among l (y .links) ≡ true → (among l (x .links) ≡ true) ⊎ (((p ≡ me) × (l ≡ q)) ⊎ ((p ≡ q) × (l ≡ me)))) × ((l : ℕ) → among l (x .links) ≡ true → among l (y .links) ≡ true) × (p ≡ me → among q (y .links) ≡ true) × (p ≡ q → among me (y .links) ≡ true)
-    was p y e = let i = add-step (change ws me (add-link q)) q me p y e in let o = add-step ws me q p (i .0) (i .1) in
+    was p y e = let i = add-link-step (change ws me (add-link q)) q me p y e in let o = add-link-step ws me q p (i .0) (i .1) in
       (o .0, o .1, λ l a. elim (i .2 l a) [ inl b ↦ elim (o .2 l b) [ inl c ↦ inl c | inr c ↦ inr (inl c) ] | inr b ↦ inr (inr b) ], λ l a. i .3 l (o .3 l a), λ a. i .3 q (o .4 a), λ a. i .4 a)
 -- one side of a link taken away
-cut-step : (ws : List Worker) (n a p : ℕ) (y : Worker) → find (change ws n (cut-link a)) p ≡ some y → (x : Worker) × (find ws p ≡ some x) × ((l : ℕ) → among l (y .links) ≡ true → (among l (x .links) ≡ true) × (p ≡ n → l ≡ a → ⊥)) × ((l : ℕ) → among l (x .links) ≡ true → (p ≡ n → l ≡ a → ⊥) → among l (y .links) ≡ true)
-cut-step ws n a p y e = let r = back ws n (cut-link a) (λ w. refl) p y e in go (r .0) (r .1) (r .2)
+cut-link-step : (ws : List Worker) (n a p : ℕ) (y : Worker) → find (change ws n (cut-link a)) p ≡ some y → (x : Worker) × (find ws p ≡ some x) × ((l : ℕ) → among l (y .links) ≡ true → (among l (x .links) ≡ true) × (p ≡ n → l ≡ a → ⊥)) × ((l : ℕ) → among l (x .links) ≡ true → (p ≡ n → l ≡ a → ⊥) → among l (y .links) ≡ true)
+cut-link-step ws n a p y e = let r = found-before-change ws n (cut-link a) (λ w. refl) p y e in go (r .0) (r .1) (r .2)
   where
     go : (x : Worker) → find ws p ≡ some x → ((p ≡ n → ⊥) × (y ≡ x)) ⊎ ((p ≡ n) × (y ≡ cut-link a x)) → (x : Worker) × (find ws p ≡ some x) × ((l : ℕ) → among l (y .links) ≡ true → (among l (x .links) ≡ true) × (p ≡ n → l ≡ a → ⊥)) × ((l : ℕ) → among l (x .links) ≡ true → (p ≡ n → l ≡ a → ⊥) → among l (y .links) ≡ true)
     go x d (inl h) = (x, d, λ l b. (subst (λ (z : Worker). among l (z .links) ≡ true) (h .1) b, λ c e. h .0 c), λ l b c. subst (λ (z : Worker). among l (z .links) ≡ true) (sym (h .1)) b)
     go x d (inr h) = (x, d, λ l b. let b2 = subst (λ (z : Worker). among l (z .links) ≡ true) (h .1) b in let ne : l ≡ a → ⊥ = λ r. no-clash b2 (subst (λ (z : ℕ). among z (without a (x .links)) ≡ false) (sym r) (among-gone a (x .links))) in (sym (among-without l a (x .links) ne) ∙ b2, λ c r. ne r), λ l b c. subst (λ (z : Worker). among l (z .links) ≡ true) (sym (h .1)) (among-without l a (x .links) (c (h .0)) ∙ b))
-pub cut-sound : (ws : List Worker) (a b k : ℕ) → Sound ws k → Sound (change (change ws a (cut-link b)) b (cut-link a)) k
+pub cut-sound : (ws : List Worker) (a b k : ℕ) → Sound-workers ws k → Sound-workers (change (change ws a (cut-link b)) b (cut-link a)) k
 cut-sound ws a b k h = record {
     apart = apart-change (change ws a (cut-link b)) b (cut-link a) (λ w. refl) (apart-change ws a (cut-link b) (λ w. refl) (h .apart));
     below = λ p y e. let r = was p y e in h .below p (r .0) (r .1);
@@ -127,47 +127,47 @@ cut-sound ws a b k h = record {
     both = λ p r x y e d m. let i = was p x e in let o = was r y d in let t = i .2 r m in o .3 p (h .both p r (i .0) (o .0) (i .1) (o .1) (t .0)) (λ c f. t .2 f c) (λ c f. t .1 f c) }
   where
     was : (p : ℕ) (y : Worker) → find (change (change ws a (cut-link b)) b (cut-link a)) p ≡ some y → (x : Worker) × (find ws p ≡ some x) × ((l : ℕ) → among l (y .links) ≡ true → (among l (x .links) ≡ true) × (p ≡ a → l ≡ b → ⊥) × (p ≡ b → l ≡ a → ⊥)) × ((l : ℕ) → among l (x .links) ≡ true → (p ≡ a → l ≡ b → ⊥) → (p ≡ b → l ≡ a → ⊥) → among l (y .links) ≡ true)
-    was p y e = let i = cut-step (change ws a (cut-link b)) b a p y e in let o = cut-step ws a b p (i .0) (i .1) in
+    was p y e = let i = cut-link-step (change ws a (cut-link b)) b a p y e in let o = cut-link-step ws a b p (i .0) (i .1) in
       (o .0, o .1, λ l m. let u = i .2 l m in let v = o .2 l (u .0) in (v .0, v .1, u .1), λ l m c d. i .3 l (o .3 l m c) d)
 
 -- each thing that a turn does keeps it
-pub did-sound : (g : Program) (s : System) (w : Scope) (me : ℕ) (u : Worker) (t : System) → find (s .workers) me ≡ some u → Effect g s w me t → SoundS s → SoundS t
-did-sound g s w me u t e nothing h = h
-did-sound g s w me u t e (sent q v) h = same-links (s .workers) q (s .next) (add-mail v) (λ x. refl) (λ x. refl) h
-did-sound g s w me u t e (spawned c f) h = new-sound (s .workers) (s .next) (record { pid = s .next; control = c; frames = []; mail = []; links = []; traps = false }) refl refl h
-did-sound g s w me u t e (linked-gone q d f) h = h
-did-sound g s w me u t e (exited q r) h = h
-did-sound g s w me u t e (linked q x d f) h = link-sound (s .workers) me q (s .next) u x e f h
-did-sound g s w me u t e (trapped b) h = same-links (s .workers) me (s .next) (set-traps b) (λ x. refl) (λ x. refl) h
-did-sound g s w me u t e (showed l) h = h
-did-sound g s w me u t e (named x) h = h
-did-sound g s w me u t e (took ms) h = same-links (s .workers) me (s .next) (set-mail ms) (λ x. refl) (λ x. refl) h
-pub swapped-sound : (s : System) (x : Name) (n : ℕ) → SoundS s → SoundS (swapped s x n)
-swapped-sound s x n h = swapped-all SoundS (λ t w i. gone-sound (t .workers) (w .pid) (t .next) i) s x n h
-pub set-sound : (s : System) (n : ℕ) (c : Control) (k : List Frame) → SoundS s → SoundS (on-worker s n (set-control c k))
-set-sound s n c k h = same-links (s .workers) n (s .next) (set-control c k) (λ x. refl) (λ x. refl) h
-turned-sound : (g : Program) (s : System) (n : ℕ) (me : Worker) (o : Outcome) → find (s .workers) (me .pid) ≡ some me → Turned g s me o → SoundS s → OnIs SoundS (settle n o)
-turned-sound g s n me o e (turn-goes c k w {t} d) h = set-sound t n c k (did-sound g s w (me .pid) me t e d h)
+pub effect-sound : (g : Program) (s : System) (w : Scope) (me : ℕ) (u : Worker) (t : System) → find (s .workers) me ≡ some u → Effect g s w me t → Sound s → Sound t
+effect-sound g s w me u t e nothing h = h
+effect-sound g s w me u t e (sent q v) h = change-sound (s .workers) q (s .next) (add-mail v) (λ x. refl) (λ x. refl) h
+effect-sound g s w me u t e (spawned c f) h = new-sound (s .workers) (s .next) (record { pid = s .next; control = c; frames = []; mail = []; links = []; traps = false }) refl refl h
+effect-sound g s w me u t e (linked-gone q d f) h = h
+effect-sound g s w me u t e (exited q r) h = h
+effect-sound g s w me u t e (linked q x d f) h = link-sound (s .workers) me q (s .next) u x e f h
+effect-sound g s w me u t e (trapped b) h = change-sound (s .workers) me (s .next) (set-traps b) (λ x. refl) (λ x. refl) h
+effect-sound g s w me u t e (showed l) h = h
+effect-sound g s w me u t e (named x) h = h
+effect-sound g s w me u t e (took ms) h = change-sound (s .workers) me (s .next) (set-mail ms) (λ x. refl) (λ x. refl) h
+pub swapped-sound : (s : System) (x : Name) (n : ℕ) → Sound s → Sound (swapped s x n)
+swapped-sound s x n h = swapped-all Sound (λ t w i. gone-sound (t .workers) (w .pid) (t .next) i) s x n h
+pub control-sound : (s : System) (n : ℕ) (c : Control) (k : List Frame) → Sound s → Sound (on-worker s n (set-control c k))
+control-sound s n c k h = change-sound (s .workers) n (s .next) (set-control c k) (λ x. refl) (λ x. refl) h
+turned-sound : (g : Program) (s : System) (n : ℕ) (me : Worker) (o : Outcome) → find (s .workers) (me .pid) ≡ some me → Turned g s me o → Sound s → OnIs Sound (settle n o)
+turned-sound g s n me o e (turn-goes c k w {t} d) h = control-sound t n c k (effect-sound g s w (me .pid) me t e d h)
 turned-sound g s n me o e (turn-ends r why) h = gone-sound (s .workers) (me .pid) (s .next) h
-turned-sound g s n me o e (turn-swaps c k x m y d f wo) h = set-sound (swapped s x m) n c k (swapped-sound s x m h)
+turned-sound g s n me o e (turn-swaps c k x m y d f wo) h = control-sound (swapped s x m) n c k (swapped-sound s x m h)
 turned-sound g s n me o e (turn-swapped-out x m d f wo) h = swapped-sound s x m h
 turned-sound g s n me o e turn-stuck h = tt
-soft-sound : (s : System) (g : Signal) (w : Worker) → SoundS s → SoundS (take-signal s g w)
-soft-sound s g w h = take-signal-all SoundS s g w (same-links (s .workers) (w .pid) (s .next) _ (λ x. refl) (λ x. refl) h) (cut-sound (s .workers) (w .pid) (g .from) (s .next) h) (gone-sound (s .workers) (w .pid) (s .next) h)
-pub move-sound : (g : Program) (s : System) (m : Move) → SoundS s → OnIs SoundS (move g s m)
-move-sound g s (turn n) h = turn-all g s n (OnIs SoundS) tt (λ me o p e d v. turned-sound g s n me o e v h)
-move-sound g s signal h = deliver-all SoundS (Unit {0}) s (s .signals) (λ x gs i. h) (λ x gs w i e. soft-sound (with-signals s gs) x w h)
-move-sound g s tick h = tick-all SoundS (Unit {0}) s (λ t l. h)
-pub first-sound : (g : Program) (c : Control) → SoundS (at-first g c)
+signal-sound : (s : System) (g : Signal) (w : Worker) → Sound s → Sound (take-signal s g w)
+signal-sound s g w h = take-signal-all Sound s g w (change-sound (s .workers) (w .pid) (s .next) _ (λ x. refl) (λ x. refl) h) (cut-sound (s .workers) (w .pid) (g .from) (s .next) h) (gone-sound (s .workers) (w .pid) (s .next) h)
+pub move-sound : (g : Program) (s : System) (m : Move) → Sound s → OnIs Sound (move g s m)
+move-sound g s (turn n) h = turn-all g s n (OnIs Sound) tt (λ me o p e d v. turned-sound g s n me o e v h)
+move-sound g s signal h = deliver-all Sound (Unit {0}) s (s .signals) (λ x gs i. h) (λ x gs w i e. signal-sound (with-signals s gs) x w h)
+move-sound g s tick h = tick-all Sound (Unit {0}) s (λ t l. h)
+pub first-sound : (g : Program) (c : Control) → Sound (at-first g c)
 first-sound g c = record {
     apart = (refl, tt);
-    below = λ q x e. let z = only (first-worker c) x q e .0 in omega arith;
+    below = λ q x e. let z = find-only (first-worker c) x q e .0 in omega arith;
     links-below = λ q l x e a. absurd (bare q x l e a);
     both = λ p q x y e d a. absurd (bare p x q e a) }
   where
     bare : (q : ℕ) (x : Worker) (l : ℕ) → find (first-worker c ∷ []) q ≡ some x → among l (x .links) ≡ true → ⊥
-    bare q x l e a = no-clash a (sym (ap (λ (z : Worker). among l (z .links)) (only (first-worker c) x q e .1)))
-pub reached-sound : (g : Program) (l : List Move) (s : System) → Reached g l s → SoundS s
-reached-sound g l s r = reached-all g SoundS (λ c e. first-sound g c) (move-sound g) l s r
+    bare q x l e a = no-clash a (sym (ap (λ (z : Worker). among l (z .links)) (find-only (first-worker c) x q e .1)))
+pub reached-sound : (g : Program) (l : List Move) (s : System) → Reached g l s → Sound s
+reached-sound g l s r = reached-all g Sound (λ c e. first-sound g c) (move-sound g) l s r
 pub links-both : Links-both
 links-both g l s p q x y r e d a = reached-sound g l s r .both p q x y e d a

@@ -19,10 +19,10 @@ use Rattle.meaning.specs.Rounds.{Budget, Soon, now, after}
 use Rattle.meaning.proofs.Queue.{At-none, Mem-cases}
 use Rattle.meaning.proofs.Past.{after-turn, after-signal}
 use Rattle.meaning.proofs.Actions.{turn-on, turn-back, turn-over, signalled, at-round, time-goes, next-round, popped}
-use Rattle.meaning.proofs.Scanning.{woken-time, those, gains, woken-all, could-or-not, newly-can}
-use Rattle.meaning.proofs.Beginning.{due-turn}
+use Rattle.meaning.proofs.Scanning.{woken-time, those, newly-could, woken-all, could-or-not, newly-can}
+use Rattle.meaning.proofs.Beginning.{due-once}
 use Rattle.meaning.proofs.Splits.{impossible, is-false, is-true}
-use Rattle.meaning.proofs.Quiet.{one-can}
+use Rattle.meaning.proofs.Quiet.{somebody-can}
 use Rattle.meaning.proofs.Results.{turn-found}
 
 due-or-not : (s : System) (q : ℕ) → Due s q ⊎ (Due s q → ⊥)
@@ -44,7 +44,7 @@ due-or-not s q = one (find (s .workers) q) refl
     one none e = inr (λ d. let f = d .2 in impossible (cc))
     one (some w) e = two w e (time-of (w .control)) refl
 pub quiet-now : (g : Program) (s : System) (k : ℕ) → Good g s (flush k) (round ∷ []) → s .signals ≡ [] → first-time (s .workers) ≡ none → quiet g s ≡ true
-quiet-now g s k i e f = ap (λ z. no-signals z && (not (any-can g s (s .workers)) && opt (first-time (s .workers)) true (λ t. leb t (s .clock)))) e ∙ ap (λ z. not z && opt (first-time (s .workers)) true (λ t. leb t (s .clock))) (is-false (any-can g s (s .workers)) (λ h. let r = one-can g s (s .workers) (i .numbered .0) (is-true (any-can g s (s .workers)) h) in nobody (r .0) (i .exact .all (r .0) (r .1, r .2, r .3)))) ∙ ap (λ z. opt z true (λ t. leb t (s .clock))) f
+quiet-now g s k i e f = ap (λ z. no-signals z && (not (any-can g s (s .workers)) && opt (first-time (s .workers)) true (λ t. leb t (s .clock)))) e ∙ ap (λ z. not z && opt (first-time (s .workers)) true (λ t. leb t (s .clock))) (is-false (any-can g s (s .workers)) (λ h. let r = somebody-can g s (s .workers) (i .numbered .0) (is-true (any-can g s (s .workers)) h) in nobody (r .0) (i .exact .all (r .0) (r .1, r .2, r .3)))) ∙ ap (λ z. opt z true (λ t. leb t (s .clock))) f
   where
     nobody : (q : ℕ) → Mem (worker q) (round ∷ []) → ⊥
     nobody q m = go (Mem-cases m)
@@ -73,18 +73,18 @@ turn-soon g s n k es i b = go (move g s (turn n)) refl
     go no-meaning e = inr (n, e)
     go (is t) e = inl (one (could-or-not g t n) (due-or-not t n))
       where
-        w : Woken g n s t (those (gains g n s t) (t .workers))
+        w : Woken g n s t (those (newly-could g n s t) (t .workers))
         w = woken-all g n s t (after-turn g s t n (i .numbered) e .numbered)
         on : Could g t n → Due t n → (2 ≤ suc k) ⊎ ((suc k ≡ 1) × Due s n) → Soon g s (serve n (suc k)) es
-        on c d (inr (h, d₀)) = absurd (due-turn g s t n d₀ e d)
-        on c d (inl h) = let y = turn-on g s t n k es (those (gains g n s t) (t .workers)) i e w c in now (y .0) (y .1) (left-of (decLe 2 k))
+        on c d (inr (h, d₀)) = absurd (due-once g s t n d₀ e d)
+        on c d (inl h) = let y = turn-on g s t n k es (those (newly-could g n s t) (t .workers)) i e w c in now (y .0) (y .1) (left-of (decLe 2 k))
           where
             left-of : Dec (2 ≤ k) → (2 ≤ k) ⊎ ((k ≡ 1) × Due t n)
             left-of (yes l) = inl l
             left-of (no f) = inr (omega arith, d)
         one : Could g t n ⊎ (Could g t n → ⊥) → Due t n ⊎ (Due t n → ⊥) → Soon g s (serve n (suc k)) es
-        one (inr f) d = let y = turn-over g s t n k es (those (gains g n s t) (t .workers)) i e w f in now (y .0) (y .1) tt
-        one (inl c) (inr f) = let y = turn-back g s t n k es (those (gains g n s t) (t .workers)) i e w c f in now (y .0) (y .1) tt
+        one (inr f) d = let y = turn-over g s t n k es (those (newly-could g n s t) (t .workers)) i e w f in now (y .0) (y .1) tt
+        one (inl c) (inr f) = let y = turn-back g s t n k es (those (newly-could g n s t) (t .workers)) i e w c f in now (y .0) (y .1) tt
         one (inl c) (inl d) = on c d b
 pop-soon : (g : Program) (s : System) (k p : ℕ) (es : List Entry) → Good g s (flush k) (worker p ∷ es) → Idle s k → Soon g s (flush k) (worker p ∷ es) ⊎ No-meaning g s
 pop-soon g s k p es i idle = go (turn-soon g s p 2047 es (popped g s k p slice es i idle (omega arith) .1) (inl (omega arith)))
@@ -96,15 +96,15 @@ signal-soon : (g : Program) (s : System) (k : ℕ) (es : List Entry) (x : Signal
 signal-soon g s k es x gs h i = go (find (s .workers) (x .to)) refl
   where
     with-t : (t : System) → move g s signal ≡ is t → Soon g s (flush (suc k)) es
-    with-t t e = let w = woken-all g (t .next) s t (after-signal g s t (t .next) (i .numbered) e .numbered) in let y = signalled g s t k es (those (gains g (t .next) s t) (t .workers)) i e w in now (y .0) (y .1) tt
+    with-t t e = let w = woken-all g (t .next) s t (after-signal g s t (t .next) (i .numbered) e .numbered) in let y = signalled g s t k es (those (newly-could g (t .next) s t) (t .workers)) i e w in now (y .0) (y .1) tt
     go : (o : Option Worker) → find (s .workers) (x .to) ≡ o → Soon g s (flush (suc k)) es
     go none e = with-t (with-signals s gs) (ap (deliver s) h ∙ ap (λ o. opt o (is (with-signals s gs)) (λ w. is (take-signal (with-signals s gs) x w))) e)
     go (some w) e = with-t (take-signal (with-signals s gs) x w) (ap (deliver s) h ∙ ap (λ o. opt o (is (with-signals s gs)) (λ w. is (take-signal (with-signals s gs) x w))) e)
 abbrev Comes-on : Program → System → Mode → List Entry → Type 0
 Comes-on g s m es = Soon g s m es ⊎ (No-meaning g s ⊎ (quiet g s ≡ true))
-wrap : (g : Program) (s : System) (m : Mode) (es : List Entry) → Soon g s m es ⊎ No-meaning g s → Comes-on g s m es
-wrap g s m es (inl y) = inl y
-wrap g s m es (inr y) = inr (inl y)
+no-quiet : (g : Program) (s : System) (m : Mode) (es : List Entry) → Soon g s m es ⊎ No-meaning g s → Comes-on g s m es
+no-quiet g s m es (inl y) = inl y
+no-quiet g s m es (inr y) = inr (inl y)
 -- after the end of a round with no time to wait for
 round-soon : (g : Program) (s : System) (k : ℕ) (es : List Entry) → Good g s (flush k) (round ∷ es) → Idle s k → Comes-on g s (flush k) (round ∷ es)
 round-soon g s k es i idle = go (at-round g s k es i)
@@ -127,7 +127,7 @@ flush-soon g s k es i = one k i (s .signals) refl
     two : (k : ℕ) → Idle s k → (es : List Entry) → Good g s (flush k) es → Comes-on g s (flush k) es
     two k d [] i = absurd (At-none (i .exact .rounds .1))
     two k d (round ∷ es) i = round-soon g s k es i d
-    two k d (worker p ∷ es) i = wrap g s (flush k) (worker p ∷ es) (pop-soon g s k p es i d)
+    two k d (worker p ∷ es) i = no-quiet g s (flush k) (worker p ∷ es) (pop-soon g s k p es i d)
     one : (k : ℕ) → Good g s (flush k) es → (gs : List Signal) → s .signals ≡ gs → Comes-on g s (flush k) es
     one zero i gs e = two zero (inl refl) es i
     one (suc k) i [] e = two (suc k) (inr e) es i
@@ -139,4 +139,4 @@ goes-on-always g s (serve n zero) es i b = absurd (go b)
     go : (2 ≤ zero) ⊎ ((zero ≡ 1) × Due s n) → ⊥
     go (inl l) = omega arith
     go (inr (e, d)) = omega arith
-goes-on-always g s (serve n (suc k)) es i b = wrap g s (serve n (suc k)) es (turn-soon g s n k es i b)
+goes-on-always g s (serve n (suc k)) es i b = no-quiet g s (serve n (suc k)) es (turn-soon g s n k es i b)

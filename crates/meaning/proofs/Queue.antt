@@ -56,15 +56,15 @@ pub kept-mem : {s : System} {es fs : List Entry} (x : Entry) → Stays s x → K
 kept-mem x c k m = let r = kept x (m .0) c k (m .1) in (r .0, r .2)
 
 -- how many stand in a queue: no more than those that can go on, and the end of the round
-worker-is : {p q : ℕ} → worker p ≡ worker q → p ≡ q
-worker-is e = cc
-decide : (n : ℕ) (y : Entry) → (y ≡ worker n) ⊎ (y ≡ worker n → ⊥)
-decide n round = inr (λ e. impossible (cc))
-decide n (worker p) = go (ℕ-discrete p n)
+worker-same : {p q : ℕ} → worker p ≡ worker q → p ≡ q
+worker-same e = cc
+worker-or-not : (n : ℕ) (y : Entry) → (y ≡ worker n) ⊎ (y ≡ worker n → ⊥)
+worker-or-not n round = inr (λ e. impossible (cc))
+worker-or-not n (worker p) = go (ℕ-discrete p n)
   where
     go : Dec (p ≡ n) → (worker p ≡ worker n) ⊎ (worker p ≡ worker n → ⊥)
     go (yes e) = inl (ap worker e)
-    go (no f) = inr (λ e. f (worker-is e))
+    go (no f) = inr (λ e. f (worker-same e))
 record Pulled (n : ℕ) (es : List Entry) : Type 0 where
   rest : List Entry
   was : Mem (worker n) es
@@ -77,41 +77,41 @@ Mem-cases {x} {y} {es} (n, a) = go (At-cases a)
     go : (x ≡ y) ⊎ ((k : ℕ) × (n ≡ suc k) × At x k es) → (x ≡ y) ⊎ Mem x es
     go (inl e) = inl e
     go (inr b) = inr (b .0, b .2)
-pub behind : {x : Entry} (y : Entry) {es : List Entry} → Mem x es → Mem x (y ∷ es)
-behind y m = (suc (m .0), there (m .1))
+pub Mem-behind : {x : Entry} (y : Entry) {es : List Entry} → Mem x es → Mem x (y ∷ es)
+Mem-behind y m = (suc (m .0), there (m .1))
 pull : (n : ℕ) (es : List Entry) → Distinct es → (Mem (worker n) es → ⊥) ⊎ Pulled n es
 pull n [] d = inl (λ m. At-none (m .1))
-pull n (y ∷ es) d = go (decide n y) (pull n es (d .1))
+pull n (y ∷ es) d = go (worker-or-not n y) (pull n es (d .1))
   where
     go : (y ≡ worker n) ⊎ (y ≡ worker n → ⊥) → (Mem (worker n) es → ⊥) ⊎ Pulled n es → (Mem (worker n) (y ∷ es) → ⊥) ⊎ Pulled n (y ∷ es)
-    go (inl e) ih = inr (record { rest = es; was = (zero, subst (λ z. At z zero (y ∷ es)) e here); len = refl; once = d .1; from = λ z m. (behind y m, λ f. d .0 (subst (λ u. Mem u es) (f ∙ sym e) m)) })
+    go (inl e) ih = inr (record { rest = es; was = (zero, subst (λ z. At z zero (y ∷ es)) e here); len = refl; once = d .1; from = λ z m. (Mem-behind y m, λ f. d .0 (subst (λ u. Mem u es) (f ∙ sym e) m)) })
     go (inr f) (inl h) = inl (λ m. other (Mem-cases m))
       where
         other : (worker n ≡ y) ⊎ Mem (worker n) es → ⊥
         other (inl e) = f (sym e)
         other (inr m) = h m
-    go (inr f) (inr r) = inr (record { rest = y ∷ r .rest; was = behind y (r .was); len = ap suc (r .len); once = (λ m. d .0 (r .from y m .0), r .once); from = λ z m. other z (Mem-cases m) })
+    go (inr f) (inr r) = inr (record { rest = y ∷ r .rest; was = Mem-behind y (r .was); len = ap suc (r .len); once = (λ m. d .0 (r .from y m .0), r .once); from = λ z m. other z (Mem-cases m) })
       where
         other : (z : Entry) → (z ≡ y) ⊎ Mem z (r .rest) → Mem z (y ∷ es) × (z ≡ worker n → ⊥)
         other z (inl e) = ((zero, subst (λ u. At u zero (y ∷ es)) (sym e) here), λ k. f (sym e ∙ k))
-        other z (inr m) = (behind y (r .from z m .0), r .from z m .1)
+        other z (inr m) = (Mem-behind y (r .from z m .0), r .from z m .1)
 
 module _ (g : Program) (s : System) where
-  abbrev Can-in : List Worker → ℕ → Type 0
-  Can-in ws p = (w : Worker) × (find ws p ≡ some w) × (can g s w ≡ true)
-  one-at-most : (es : List Entry) → Distinct es → ((p : ℕ) → Mem (worker p) es → ⊥) → length es ≤ 1
-  one-at-most [] d f = omega arith
-  one-at-most (worker p ∷ es) d f = absurd (f p (zero, here))
-  one-at-most (round ∷ []) d f = omega arith
-  one-at-most (round ∷ worker p ∷ es) d f = absurd (f p (behind round (zero, here)))
-  one-at-most (round ∷ round ∷ es) d f = absurd (d .0 (zero, here))
-  pub long : (ws : List Worker) (es : List Entry) → Distinct es → ((p : ℕ) → Mem (worker p) es → Can-in ws p) → length es ≤ 1 + able g s ws
-  long [] es d c = let h = one-at-most es d (λ p m. impossible (cc (c p m .1))) in omega arith
-  long (w ∷ ws) es d c = go (pull (w .pid) es d) (λ fs. long ws fs)
+  abbrev Can-among : List Worker → ℕ → Type 0
+  Can-among ws p = (w : Worker) × (find ws p ≡ some w) × (can g s w ≡ true)
+  no-workers-bounded : (es : List Entry) → Distinct es → ((p : ℕ) → Mem (worker p) es → ⊥) → length es ≤ 1
+  no-workers-bounded [] d f = omega arith
+  no-workers-bounded (worker p ∷ es) d f = absurd (f p (zero, here))
+  no-workers-bounded (round ∷ []) d f = omega arith
+  no-workers-bounded (round ∷ worker p ∷ es) d f = absurd (f p (Mem-behind round (zero, here)))
+  no-workers-bounded (round ∷ round ∷ es) d f = absurd (d .0 (zero, here))
+  pub queue-bounded : (ws : List Worker) (es : List Entry) → Distinct es → ((p : ℕ) → Mem (worker p) es → Can-among ws p) → length es ≤ 1 + able g s ws
+  queue-bounded [] es d c = let h = no-workers-bounded es d (λ p m. impossible (cc (c p m .1))) in omega arith
+  queue-bounded (w ∷ ws) es d c = go (pull (w .pid) es d) (λ fs. queue-bounded ws fs)
     where
-      past : (p : ℕ) → (p ≡ w .pid → ⊥) → Can-in (w ∷ ws) p → Can-in ws p
+      past : (p : ℕ) → (p ≡ w .pid → ⊥) → Can-among (w ∷ ws) p → Can-among ws p
       past p f h = (h .0, sym (find-there w ws p (λ e. f (sym e))) ∙ h .1, h .2)
-      go : (Mem (worker (w .pid)) es → ⊥) ⊎ Pulled (w .pid) es → ((fs : List Entry) → Distinct fs → ((p : ℕ) → Mem (worker p) fs → Can-in ws p) → length fs ≤ 1 + able g s ws) → length es ≤ 1 + able g s (w ∷ ws)
+      go : (Mem (worker (w .pid)) es → ⊥) ⊎ Pulled (w .pid) es → ((fs : List Entry) → Distinct fs → ((p : ℕ) → Mem (worker p) fs → Can-among ws p) → length fs ≤ 1 + able g s ws) → length es ≤ 1 + able g s (w ∷ ws)
       go (inl h) ih = let k : length es ≤ 1 + able g s ws = ih es d (λ p m. past p (λ e. h (subst (λ q. Mem (worker q) es) e m)) (c p m)) in omega arith
       go (inr r) ih =
         let k : length (r .rest) ≤ 1 + able g s ws = ih (r .rest) (r .once) (λ p m. past p (λ e. r .from (worker p) m .1 (ap worker e)) (c p (r .from (worker p) m .0))) in
@@ -126,7 +126,7 @@ pub Mem-left : {x : Entry} {es : List Entry} (fs : List Entry) → Mem x es → 
 Mem-left fs (n, a) = (n, At-append fs a)
 pub Mem-right : {x : Entry} (es : List Entry) {fs : List Entry} → Mem x fs → Mem x (es ++ fs)
 Mem-right [] m = m
-Mem-right (y ∷ es) m = behind y (Mem-right es m)
+Mem-right (y ∷ es) m = Mem-behind y (Mem-right es m)
 pub Mem-split : {x : Entry} (es : List Entry) {fs : List Entry} → Mem x (es ++ fs) → Mem x es ⊎ Mem x fs
 Mem-split [] m = inr m
 Mem-split {x} (y ∷ es) {fs} m = go (Mem-cases m) (Mem-split es)
@@ -136,11 +136,11 @@ Mem-split {x} (y ∷ es) {fs} m = go (Mem-cases m) (Mem-split es)
     go (inr m) ih = other (ih m)
       where
         other : Mem x es ⊎ Mem x fs → Mem x (y ∷ es) ⊎ Mem x fs
-        other (inl a) = inl (behind y a)
+        other (inl a) = inl (Mem-behind y a)
         other (inr b) = inr b
 pub Distinct-append : (es fs : List Entry) → Distinct es → Distinct fs → ((x : Entry) → Mem x es → Mem x fs → ⊥) → Distinct (es ++ fs)
 Distinct-append [] fs d e h = e
-Distinct-append (x ∷ es) fs d e h = (λ m. go (Mem-split es m), Distinct-append es fs (d .1) e (λ y a b. h y (behind x a) b))
+Distinct-append (x ∷ es) fs d e h = (λ m. go (Mem-split es m), Distinct-append es fs (d .1) e (λ y a b. h y (Mem-behind x a) b))
   where
     go : Mem x es ⊎ Mem x fs → ⊥
     go (inl a) = d .0 a
@@ -151,8 +151,8 @@ kept-from {s} (keep {x = y} {es = es} {fs = fs} k) x m = go (Mem-cases m) (kept-
   where
     go : (x ≡ y) ⊎ Mem x fs → (Mem x fs → Mem x es) → Mem x (y ∷ es)
     go (inl e) ih = (zero, subst (λ z. At x zero (z ∷ es)) e here)
-    go (inr a) ih = behind y (ih a)
-kept-from (leave {p = p} e k) x m = behind (worker p) (kept-from k x m)
+    go (inr a) ih = Mem-behind y (ih a)
+kept-from (leave {p = p} e k) x m = Mem-behind (worker p) (kept-from k x m)
 pub kept-distinct : {s : System} {es fs : List Entry} → Kept s es fs → Distinct es → Distinct fs
 kept-distinct end d = d
 kept-distinct (keep {x = x} k) d = (λ m. d .0 (kept-from k x m), kept-distinct k (d .1))
@@ -168,8 +168,8 @@ Before-none a = elim a as (λ es b. is-none es → ⊥) [ first m ↦ λ e. e | 
     is-none [] = Unit {0}
     is-none (x ∷ es) = ⊥
 pub Before-mem : {x y : Entry} {es : List Entry} → Before x y es → Mem y es
-Before-mem {x} (first m) = behind x m
-Before-mem (next {z = z} b) = behind z (Before-mem b)
+Before-mem {x} (first m) = Mem-behind x m
+Before-mem (next {z = z} b) = Mem-behind z (Before-mem b)
 pub Before-append : {x y : Entry} {es : List Entry} (fs : List Entry) → Before x y es → Before x y (es ++ fs)
 Before-append fs (first m) = first (Mem-left fs m)
 Before-append fs (next b) = next (Before-append fs b)
@@ -193,6 +193,6 @@ Before-kept {s} q (leave {p = p} {es = es} {fs = fs} d k) h b = go (Before-cases
     go (inl (e, m)) ih = let y : q ≡ p = cc in absurd (h (ap (find (s .workers)) y ∙ d))
     go (inr a) ih = ih a
 
-pub keep-all : (s : System) (es : List Entry) → Kept s es es
-keep-all s [] = end
-keep-all s (x ∷ es) = keep (keep-all s es)
+pub kept-whole : (s : System) (es : List Entry) → Kept s es es
+kept-whole s [] = end
+kept-whole s (x ∷ es) = keep (kept-whole s es)

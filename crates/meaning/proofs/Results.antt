@@ -21,25 +21,25 @@ use Rattle.meaning.proofs.Finding.{find-pid}
 use Rattle.meaning.proofs.Effects.{turn-view}
 
 -- what holds of every system that a result is; N stands for having no meaning
-abbrev pub OnR : (System → Type 0) → Type 0 → Result → Type 0
-OnR P N (is s) = P s
-OnR P N not-allowed = Unit {0}
-OnR P N no-meaning = N
+abbrev pub OnResult : (System → Type 0) → Type 0 → Result → Type 0
+OnResult P N (is s) = P s
+OnResult P N not-allowed = Unit {0}
+OnResult P N no-meaning = N
 abbrev pub OnIs : (System → Type 0) → Result → Type 0
-OnIs P r = OnR P (Unit {0}) r
+OnIs P r = OnResult P (Unit {0}) r
 pub on-is-of : (P : System → Type 0) (r : Result) (s : System) → OnIs P r → r ≡ is s → P s
 on-is-of P r s h e = subst (OnIs P) e h
 -- along moves
-pub along : (g : Program) (P : System → Type 0) (N : Type 0) → ((s : System) (m : Move) → P s → OnR P N (move g s m)) → (l : List Move) (s : System) → P s → OnR P N (moves g s l)
-along g P N step [] s h = h
-along g P N step (m ∷ l) s h = go (move g s m) (step s m h) (λ t p. along g P N step l t p)
+pub moves-all : (g : Program) (P : System → Type 0) (N : Type 0) → ((s : System) (m : Move) → P s → OnResult P N (move g s m)) → (l : List Move) (s : System) → P s → OnResult P N (moves g s l)
+moves-all g P N step [] s h = h
+moves-all g P N step (m ∷ l) s h = go (move g s m) (step s m h) (λ t p. moves-all g P N step l t p)
   where
-    go : (r : Result) → OnR P N r → ((t : System) → P t → OnR P N (moves g t l)) → OnR P N (on-is r (λ t. moves g t l))
+    go : (r : Result) → OnResult P N r → ((t : System) → P t → OnResult P N (moves g t l)) → OnResult P N (on-is r (λ t. moves g t l))
     go (is t) p f = f t p
     go not-allowed p f = tt
     go no-meaning p f = p
 -- two properties together
-pub on-both : (P Q : System → Type 0) (N : Type 0) (r : Result) → OnIs P r → OnR Q N r → OnR (λ t. P t × Q t) N r
+pub on-both : (P Q : System → Type 0) (N : Type 0) (r : Result) → OnIs P r → OnResult Q N r → OnResult (λ t. P t × Q t) N r
 on-both P Q N (is t) p q = (p, q)
 on-both P Q N not-allowed p q = tt
 on-both P Q N no-meaning p q = q
@@ -61,12 +61,12 @@ turn-all g s n P no-turn f = opt-all P (find (s .workers) n) not-allowed (λ w. 
 pub turn-found : (g : Program) (s : System) (n : ℕ) (w : Worker) → find (s .workers) n ≡ some w → move g s (turn n) ≡ opt (turn-of g s w) not-allowed (settle n)
 turn-found g s n w e = ap (λ (o : Option Worker). opt o not-allowed (λ v. opt (turn-of g s v) not-allowed (settle n))) e
 -- the clock goes on
-pub tick-all : (P : System → Type 0) (N : Type 0) (s : System) → ((t : ℕ) → s .clock < t → P (with-clock s t)) → OnR P N (clock-on s)
-tick-all P N s h = opt-all (OnR P N) (first-time (s .workers)) not-allowed (λ t. cond (ltb (s .clock) t) (is (with-clock s t)) not-allowed) (λ e. tt) (λ t e. cond-all (OnR P N) (ltb (s .clock) t) (is (with-clock s t)) not-allowed (λ d. h t (ltb→lt (s .clock) t (T-of d))) (λ d. tt))
+pub tick-all : (P : System → Type 0) (N : Type 0) (s : System) → ((t : ℕ) → s .clock < t → P (with-clock s t)) → OnResult P N (clock-on s)
+tick-all P N s h = opt-all (OnResult P N) (first-time (s .workers)) not-allowed (λ t. cond (ltb (s .clock) t) (is (with-clock s t)) not-allowed) (λ e. tt) (λ t e. cond-all (OnResult P N) (ltb (s .clock) t) (is (with-clock s t)) not-allowed (λ d. h t (ltb→lt (s .clock) t (T-of d))) (λ d. tt))
 -- a signal is lost, or is taken in one of three ways: as a message, as the end of a link, or as the worker's end
-pub deliver-all : (P : System → Type 0) (N : Type 0) (s : System) (gs : List Signal) → ((g : Signal) (hs : List Signal) → gs ≡ g ∷ hs → P (with-signals s hs)) → ((g : Signal) (hs : List Signal) (w : Worker) → gs ≡ g ∷ hs → find (s .workers) (g .to) ≡ some w → P (take-signal (with-signals s hs) g w)) → OnR P N (deliver s gs)
+pub deliver-all : (P : System → Type 0) (N : Type 0) (s : System) (gs : List Signal) → ((g : Signal) (hs : List Signal) → gs ≡ g ∷ hs → P (with-signals s hs)) → ((g : Signal) (hs : List Signal) (w : Worker) → gs ≡ g ∷ hs → find (s .workers) (g .to) ≡ some w → P (take-signal (with-signals s hs) g w)) → OnResult P N (deliver s gs)
 deliver-all P N s [] lost taken = tt
-deliver-all P N s (g ∷ hs) lost taken = opt-all (OnR P N) (find (s .workers) (g .to)) (is (with-signals s hs)) (λ w. is (take-signal (with-signals s hs) g w)) (λ e. lost g hs refl) (λ w e. taken g hs w refl e)
+deliver-all P N s (g ∷ hs) lost taken = opt-all (OnResult P N) (find (s .workers) (g .to)) (is (with-signals s hs)) (λ w. is (take-signal (with-signals s hs) g w)) (λ e. lost g hs refl) (λ w e. taken g hs w refl e)
 pub take-signal-all : (P : System → Type 0) (s : System) (g : Signal) (w : Worker) → P (on-worker s (w .pid) (add-mail (exit-message g))) → P (on-worker (on-worker s (w .pid) (cut-link (g .from))) (g .from) (cut-link (w .pid))) → P (ended s w (g .reason)) → P (take-signal s g w)
 take-signal-all P s g w message link end = cond-all P (w .traps) _ _ (λ h. message) (λ h. cond-all P (sameV (g .reason) (v-atom a-normal)) _ (ended s w (g .reason)) (λ i. link) (λ i. end))
 -- the first system
@@ -82,7 +82,7 @@ begin-all g P h b e = subst (OnSome P) e (go (enter-function g (first-name g) 1 
     go (some c) e = h c e
 -- whatever holds at first and is kept by every move holds wherever one comes
 pub reached-all : (g : Program) (P : System → Type 0) → ((c : Control) → enter-function g (first-name g) 1 a-main [] ≡ some c → P (at-first g c)) → ((s : System) (m : Move) → P s → OnIs P (move g s m)) → (l : List Move) (s : System) → Reached g l s → P s
-reached-all g P start step l s r = on-is-of P (moves g (r .0) l) s (along g P (Unit {0}) step l (r .0) (begin-all g P start (r .0) (r .1))) (r .2)
+reached-all g P start step l s r = on-is-of P (moves g (r .0) l) s (moves-all g P (Unit {0}) step l (r .0) (begin-all g P start (r .0) (r .1))) (r .2)
 
 -- a program that is read begins
 pub begins : Begins

@@ -14,9 +14,9 @@ use Rattle.meaning.specs.System.{Worker, System, find, Apart, with-clock}
 use Rattle.meaning.specs.Turns.{can}
 use Rattle.meaning.specs.Fair.{Could}
 use Rattle.meaning.specs.Scheduler.{Woken, Numbered, Entry, worker, At, here, Mem, Distinct}
-use Rattle.meaning.proofs.Queue.{At-none, Mem-cases, behind}
+use Rattle.meaning.proofs.Queue.{At-none, Mem-cases, Mem-behind}
 use Rattle.meaning.proofs.Finding.{find-here, find-there, find-pid, find-behind}
-use Rattle.meaning.proofs.Splits.{either, impossible, and-yes, not-yes, none-some, no-clash, some-is, bool-all, eqb-isnt, eqb-no}
+use Rattle.meaning.proofs.Splits.{equal-or-not, impossible, and-true, not-true, none-some, no-clash, some-is, bool-all, eqb-isnt, eqb-no}
 
 -- those of a list that pass a test
 pub those : (Worker → Bool) → List Worker → List Entry
@@ -52,10 +52,10 @@ module _ (b : Worker → Bool) where
   those-has : (ws : List Worker) (q : ℕ) (w : Worker) → find ws q ≡ some w → b w ≡ true → Mem (worker q) (those b ws)
   unfolding those
   those-has [] q w f c = impossible (cc)
-  those-has (x ∷ ws) q w f c = side (either (x .pid) q) (those-has ws q w)
+  those-has (x ∷ ws) q w f c = side (equal-or-not (x .pid) q) (those-has ws q w)
     where
       skip : (d : Bool) → Mem (worker q) (those b ws) → Mem (worker q) (cond d (worker (x .pid) ∷ those b ws) (those b ws))
-      skip true m = behind (worker (x .pid)) m
+      skip true m = Mem-behind (worker (x .pid)) m
       skip false m = m
       side : (x .pid ≡ q) ⊎ (x .pid ≡ q → ⊥) → (find ws q ≡ some w → b w ≡ true → Mem (worker q) (those b ws)) → Mem (worker q) (cond (b x) (worker (x .pid) ∷ those b ws) (those b ws))
       side (inl e) ih =
@@ -78,46 +78,46 @@ woken-time g s u i = woken-those g (s .next) s t (newly-can g s t) (i .0) each a
     t : System
     t = with-clock s u
     each : (q : ℕ) (w : Worker) → find (s .workers) q ≡ some w → newly-can g s (with-clock s u) w ≡ true → (q ≡ s .next → ⊥) × (can g (with-clock s u) w ≡ true) × (Could g s q → ⊥)
-    each q w f h = let y = and-yes (not (can g s w)) (can g (with-clock s u) w) h in (λ e. none-some (sym (i .1 q (omega arith)) ∙ f), y .1, λ c. no-clash (ap (can g s) (some-is (sym f ∙ c .1)) ∙ c .2) (not-yes (can g s w) (y .0)))
+    each q w f h = let y = and-true (not (can g s w)) (can g (with-clock s u) w) h in (λ e. none-some (sym (i .1 q (omega arith)) ∙ f), y .1, λ c. no-clash (ap (can g s) (some-is (sym f ∙ c .1)) ∙ c .2) (not-true (can g s w) (y .0)))
     all : (q : ℕ) (w : Worker) → find (s .workers) q ≡ some w → (q ≡ s .next → ⊥) → can g (with-clock s u) w ≡ true → Could g s q ⊎ (newly-can g s (with-clock s u) w ≡ true)
     all q w f d c = bool-all (λ b. can g s w ≡ b → Could g s q ⊎ (newly-can g s (with-clock s u) w ≡ true)) (can g s w) (λ e h. inl (w, f, e)) (λ e h. inr (ap (λ b. not b && can g (with-clock s u) w) e ∙ c)) refl
 
 -- somebody can, or can't
 could : Program → System → ℕ → Bool
 could g s q = opt (find (s .workers) q) false (can g s)
-could-is : (g : Program) (s : System) (q : ℕ) → could g s q ≡ true → Could g s q
+could-true : (g : Program) (s : System) (q : ℕ) → could g s q ≡ true → Could g s q
 unfolding could
-could-is g s q h = go (find (s .workers) q) refl h
+could-true g s q h = go (find (s .workers) q) refl h
   where
     go : (o : Option Worker) → find (s .workers) q ≡ o → opt o false (can g s) ≡ true → Could g s q
     go none e h = impossible (cc)
     go (some w) e h = (w, e, h)
-is-could : (g : Program) (s : System) (q : ℕ) → Could g s q → could g s q ≡ true
+true-could : (g : Program) (s : System) (q : ℕ) → Could g s q → could g s q ≡ true
 unfolding could
-is-could g s q (w, f, c) = ap (λ o. opt o false (can g s)) f ∙ c
+true-could g s q (w, f, c) = ap (λ o. opt o false (can g s)) f ∙ c
 pub could-or-not : (g : Program) (s : System) (q : ℕ) → Could g s q ⊎ (Could g s q → ⊥)
-could-or-not g s q = bool-all (λ b. could g s q ≡ b → Could g s q ⊎ (Could g s q → ⊥)) (could g s q) (λ e h. inl (could-is g s q e)) (λ e h. inr (λ c. no-clash (is-could g s q c) e)) refl
+could-or-not g s q = bool-all (λ b. could g s q ≡ b → Could g s q ⊎ (Could g s q → ⊥)) (could g s q) (λ e h. inl (could-true g s q e)) (λ e h. inr (λ c. no-clash (true-could g s q c) e)) refl
 -- whoever became able, of all
-pub gains : Program → ℕ → System → System → Worker → Bool
-gains g n s t w = not (could g s (w .pid)) && (can g t w && not (eqb (w .pid) n))
-and-both : (a b c : Bool) → (not a && (b && not c)) ≡ true → (a ≡ false) × (b ≡ true) × (c ≡ false)
-and-both false true false h = (refl, refl, refl)
-and-both true b c h = (cc, cc, cc)
-and-both false false c h = (cc, cc, cc)
-and-both false true true h = (cc, cc, cc)
-and-all : (a b c : Bool) → a ≡ false → b ≡ true → c ≡ false → (not a && (b && not c)) ≡ true
-and-all a b c x y z = ap (λ u. not u && (b && not c)) x ∙ ap (λ u. u && not c) y ∙ ap not z
-pub woken-all : (g : Program) (n : ℕ) (s t : System) → Numbered t → Woken g n s t (those (gains g n s t) (t .workers))
-unfolding gains
-woken-all g n s t i = woken-those g n s t (gains g n s t) (i .0) each all
+pub newly-could : Program → ℕ → System → System → Worker → Bool
+newly-could g n s t w = not (could g s (w .pid)) && (can g t w && not (eqb (w .pid) n))
+gains-parts : (a b c : Bool) → (not a && (b && not c)) ≡ true → (a ≡ false) × (b ≡ true) × (c ≡ false)
+gains-parts false true false h = (refl, refl, refl)
+gains-parts true b c h = (cc, cc, cc)
+gains-parts false false c h = (cc, cc, cc)
+gains-parts false true true h = (cc, cc, cc)
+gains-whole : (a b c : Bool) → a ≡ false → b ≡ true → c ≡ false → (not a && (b && not c)) ≡ true
+gains-whole a b c x y z = ap (λ u. not u && (b && not c)) x ∙ ap (λ u. u && not c) y ∙ ap not z
+pub woken-all : (g : Program) (n : ℕ) (s t : System) → Numbered t → Woken g n s t (those (newly-could g n s t) (t .workers))
+unfolding newly-could
+woken-all g n s t i = woken-those g n s t (newly-could g n s t) (i .0) each all
   where
-    each : (q : ℕ) (w : Worker) → find (t .workers) q ≡ some w → gains g n s t w ≡ true → (q ≡ n → ⊥) × (can g t w ≡ true) × (Could g s q → ⊥)
+    each : (q : ℕ) (w : Worker) → find (t .workers) q ≡ some w → newly-could g n s t w ≡ true → (q ≡ n → ⊥) × (can g t w ≡ true) × (Could g s q → ⊥)
     each q w f h =
       let p = find-pid (t .workers) q w f in
-      let y = and-both (could g s (w .pid)) (can g t w) (eqb (w .pid) n) h in
-      (λ d. eqb-isnt (w .pid) n (y .2) (p ∙ d), y .1, λ c. no-clash (is-could g s q c) (ap (could g s) (sym p) ∙ y .0))
-    all : (q : ℕ) (w : Worker) → find (t .workers) q ≡ some w → (q ≡ n → ⊥) → can g t w ≡ true → Could g s q ⊎ (gains g n s t w ≡ true)
+      let y = gains-parts (could g s (w .pid)) (can g t w) (eqb (w .pid) n) h in
+      (λ d. eqb-isnt (w .pid) n (y .2) (p ∙ d), y .1, λ c. no-clash (true-could g s q c) (ap (could g s) (sym p) ∙ y .0))
+    all : (q : ℕ) (w : Worker) → find (t .workers) q ≡ some w → (q ≡ n → ⊥) → can g t w ≡ true → Could g s q ⊎ (newly-could g n s t w ≡ true)
     all q w f d c =
       let p = find-pid (t .workers) q w f in
-      bool-all (λ b. could g s q ≡ b → Could g s q ⊎ (gains g n s t w ≡ true)) (could g s q) (λ e h. inl (could-is g s q e))
-        (λ e h. inr (and-all (could g s (w .pid)) (can g t w) (eqb (w .pid) n) (ap (could g s) p ∙ e) c (eqb-no (w .pid) n (λ z. d (sym p ∙ z))))) refl
+      bool-all (λ b. could g s q ≡ b → Could g s q ⊎ (newly-could g n s t w ≡ true)) (could g s q) (λ e h. inl (could-true g s q e))
+        (λ e h. inr (gains-whole (could g s (w .pid)) (can g t w) (eqb (w .pid) n) (ap (could g s) p ∙ e) c (eqb-no (w .pid) n (λ z. d (sym p ∙ z))))) refl

@@ -14,7 +14,7 @@ use Rattle.meaning.specs.Scheduler.{Entry, Mode, So-far}
 use Rattle.meaning.specs.Rounds.{Budget, Soon, Scheduler-laws}
 use Rattle.meaning.proofs.NeverStuck.{never-stuck}
 use Rattle.meaning.proofs.Actions.{turn-on, turn-back, turn-over, signalled, at-round, time-goes, next-round, popped}
-use Rattle.meaning.proofs.Beginning.{so-far-none, one-more, so-far-fair, due-turn}
+use Rattle.meaning.proofs.Beginning.{so-far-begins, one-more, so-far-fair, due-once}
 use Rattle.meaning.proofs.Progress.{goes-on-always, quiet-now}
 use Rattle.meaning.proofs.Results.{moves-append}
 
@@ -31,13 +31,13 @@ program-goes-on t g b s l m es r e a w = go (goes-on-always g s m es (a .good) w
 
 pub scheduler-laws : Scheduler-laws
 scheduler-laws = record {
-    begins = so-far-none;
+    begins = so-far-begins;
     one-more = λ g b s t l x m n es fs a h. one-more a h;
     fair = λ g b s l m es a. so-far-fair a;
     turn-on = turn-on;
     turn-back = turn-back;
     turn-over = turn-over;
-    due-once = due-turn;
+    due-once = due-once;
     signalled = signalled;
     at-round = at-round;
     time-goes = time-goes;

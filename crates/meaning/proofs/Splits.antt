@@ -79,20 +79,20 @@ on-some-all P R none f h i = tt
 on-some-all P R (some x) f h i = i x h
 
 -- two numbers are equal or not
-pub either : (a b : ℕ) → (a ≡ b) ⊎ (a ≡ b → ⊥)
-either a b = bool-all (λ t. (a ≡ b) ⊎ (a ≡ b → ⊥)) (eqb a b) (λ h. inl (eqb-is a b h)) (λ h. inr (eqb-isnt a b h))
-pub or-no : (a b : Bool) → (a || b) ≡ false → (a ≡ false) × (b ≡ false)
-or-no true b e = no-clash refl e
-or-no false b e = (refl, e)
-pub and-yes : (a b : Bool) → (a && b) ≡ true → (a ≡ true) × (b ≡ true)
-and-yes true b e = (refl, e)
-and-yes false b e = no-clash e refl
-pub not-yes : (b : Bool) → not b ≡ true → b ≡ false
-not-yes true e = no-clash e refl
-not-yes false e = refl
+pub equal-or-not : (a b : ℕ) → (a ≡ b) ⊎ (a ≡ b → ⊥)
+equal-or-not a b = bool-all (λ t. (a ≡ b) ⊎ (a ≡ b → ⊥)) (eqb a b) (λ h. inl (eqb-is a b h)) (λ h. inr (eqb-isnt a b h))
+pub or-false : (a b : Bool) → (a || b) ≡ false → (a ≡ false) × (b ≡ false)
+or-false true b e = no-clash refl e
+or-false false b e = (refl, e)
+pub and-true : (a b : Bool) → (a && b) ≡ true → (a ≡ true) × (b ≡ true)
+and-true true b e = (refl, e)
+and-true false b e = no-clash e refl
+pub not-true : (b : Bool) → not b ≡ true → b ≡ false
+not-true true e = no-clash e refl
+not-true false e = refl
 pub some-or-none : {A : Type 0} (o : Option A) → (o ≡ none) ⊎ ((x : A) × (o ≡ some x))
 some-or-none none = inl refl
 some-or-none (some x) = inr (x, refl)
-pub some-any : {A : Type 0} (o : Option A) → OnSome (λ x. Unit {0}) o
-some-any none = tt
-some-any (some x) = tt
+pub on-some-any : {A : Type 0} (o : Option A) → OnSome (λ x. Unit {0}) o
+on-some-any none = tt
+on-some-any (some x) = tt
