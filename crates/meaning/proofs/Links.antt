@@ -1,4 +1,5 @@
--- Numbers are apart and below the next; links go both ways: kept by every move.
+-- The invariant `Sound`: numbers are apart and below the next one, and links go both ways. Links are made and cut on both
+-- sides at once, so whatever relation tells which links are new or cut is symmetric (`relinked-sound`).
 use mathlib.Core.Path.{_≡_, refl, sym, ap, subst, _∙_}
 use mathlib.Core.Logic.{_⊎_, inl, inr}
 use mathlib.Core.Bool.{Bool, true, false, _||_, cond}
@@ -16,7 +17,7 @@ use Rattle.meaning.specs.Promise.{Reached, Links-both}
 use Rattle.meaning.specs.Effects.{Effect, nothing, sent, spawned, linked-gone, exited, linked, trapped, showed, named, took, Turned, turn-goes, turn-ends, turn-swaps, turn-swapped-out, turn-stuck}
 use Rattle.meaning.specs.Scheduler.{Numbered}
 use Rattle.meaning.proofs.Splits.{no-clash, cond-all, bool-all, eqb-no, eqb-yes, eqb-is}
-use Rattle.meaning.proofs.Finding.{Keeps-number, apart-change, apart-gone, apart-new, Within, found-before-change, gone-within, found-before-new, find-only}
+use Rattle.meaning.proofs.Finding.{Keeps-number, apart-change, apart-gone, apart-new, found-before-change, gone-within, found-before-new, find-only}
 use Rattle.meaning.proofs.Results.{OnIs, turn-all, reached-all, at-first, take-signal-all, deliver-all, tick-all, first-worker}
 use Rattle.meaning.proofs.Swapping.{swapped-all}
 
@@ -62,23 +63,42 @@ sound-free ws k h q l = go (find ws q) refl
     go (some x) e = let z = h .below q x e in absurd (omega arith)
 pub sound-numbered : (s : System) → Sound s → Numbered s
 sound-numbered s h = (h .apart, sound-free (s .workers) (s .next) h)
+-- links that are made, or cut: from p to l
+abbrev None : ℕ → ℕ → Type 0
+None p l = ⊥
+abbrev One : ℕ → ℕ → ℕ → ℕ → Type 0
+One n a p l = (p ≡ n) × (l ≡ a)
+-- the worker p, x before and y now, has the links that it had but for those cut, and those made
+record Relinked-worker (Made Cut : ℕ → ℕ → Type 0) (p : ℕ) (x y : Worker) : Type 0 where
+  from : (l : ℕ) → among l (y .links) ≡ true → ((among l (x .links) ≡ true) × (Cut p l → ⊥)) ⊎ Made p l
+  kept : (l : ℕ) → among l (x .links) ≡ true → (Cut p l → ⊥) → among l (y .links) ≡ true
+  made : (l : ℕ) → Made p l → among l (y .links) ≡ true
+abbrev Relinked : (ℕ → ℕ → Type 0) → (ℕ → ℕ → Type 0) → List Worker → List Worker → Type 0
+Relinked Made Cut vs ws = (p : ℕ) (y : Worker) → find vs p ≡ some y → (x : Worker) × (find ws p ≡ some x) × Relinked-worker Made Cut p x y
+relinked-sound : (Made Cut : ℕ → ℕ → Type 0) (vs ws : List Worker) (k : ℕ) → ((p l : ℕ) → Made p l → Made l p) → ((p l : ℕ) → Cut p l → Cut l p) → ((p l : ℕ) → Made p l → l < k) → Apart vs → Relinked Made Cut vs ws → Sound-workers ws k → Sound-workers vs k
+relinked-sound Made Cut vs ws k made-back cut-back low apart was h = record {
+    apart = apart;
+    below = λ q y e. let r = was q y e in h .below q (r .0) (r .1);
+    links-below = λ q l y e a. let r = was q y e in elim (r .2 .from l a) [ inl b ↦ h .links-below q l (r .0) (r .1) (b .0) | inr m ↦ low q l m ];
+    both = λ p q x y e d a. let r = was p x e in let t = was q y d in elim (r .2 .from q a) [
+        inl b ↦ t .2 .kept p (h .both p q (r .0) (t .0) (r .1) (t .1) (b .0)) (λ c. b .1 (cut-back q p c))
+      | inr m ↦ t .2 .made p (made-back p q m) ] }
+relinked-twice : (Made Cut Made′ Cut′ : ℕ → ℕ → Type 0) (us vs ws : List Worker) → ((p l : ℕ) → Made′ p l → Cut p l → ⊥) → Relinked Made Cut us vs → Relinked Made′ Cut′ vs ws → Relinked (λ p l. Made p l ⊎ Made′ p l) (λ p l. Cut p l ⊎ Cut′ p l) us ws
+relinked-twice Made Cut Made′ Cut′ us vs ws apart second first p y e = let i = second p y e in let o = first p (i .0) (i .1) in (o .0, o .1, record {
+    from = λ l a. elim (i .2 .from l a) [
+        inl b ↦ elim (o .2 .from l (b .0)) [ inl c ↦ inl (c .0, λ z. elim z [ inl u ↦ b .1 u | inr u ↦ c .1 u ]) | inr m ↦ inr (inr m) ]
+      | inr m ↦ inr (inl m) ];
+    kept = λ l a c. i .2 .kept l (o .2 .kept l a (λ u. c (inr u))) (λ u. c (inl u));
+    made = λ l m. elim m [ inl u ↦ i .2 .made l u | inr u ↦ i .2 .kept l (o .2 .made l u) (apart p l u) ] })
+-- the same links: after a change that leaves them, and of fewer workers
+same-links-sound : (vs ws : List Worker) (k : ℕ) → Apart vs → Relinked None None vs ws → Sound-workers ws k → Sound-workers vs k
+same-links-sound vs ws k apart was h = relinked-sound None None vs ws k (λ p l m. m) (λ p l c. c) (λ p l m. absurd m) apart was h
+same-links : (p : ℕ) (x y : Worker) → y .links ≡ x .links → Relinked-worker None None p x y
+same-links p x y e = record { from = λ l b. inl (ap (among l) (sym e) ∙ b, λ z. z); kept = λ l b c. ap (among l) e ∙ b; made = λ l m. absurd m }
 pub change-sound : (ws : List Worker) (n k : ℕ) (f : Worker → Worker) → Keeps-number f → ((w : Worker) → f w .links ≡ w .links) → Sound-workers ws k → Sound-workers (change ws n f) k
-change-sound ws n k f kp kl h = record {
-    apart = apart-change ws n f kp (h .apart);
-    below = λ q y e. let r = found-before-change ws n f kp q y e in h .below q (r .0) (r .1);
-    links-below = λ q l y e a. let r = was q y e in h .links-below q l (r .0) (r .1) (ap (among l) (sym (r .2)) ∙ a);
-    both = λ p q x y e d a. let r = was p x e in let t = was q y d in ap (among p) (t .2) ∙ h .both p q (r .0) (t .0) (r .1) (t .1) (ap (among q) (sym (r .2)) ∙ a) }
-  where
-    was : (q : ℕ) (y : Worker) → find (change ws n f) q ≡ some y → (x : Worker) × (find ws q ≡ some x) × (y .links ≡ x .links)
-    was q y e = let r = found-before-change ws n f kp q y e in (r .0, r .1, elim (r .2) [ inl a ↦ ap (λ (z : Worker). z .links) (a .1) | inr a ↦ ap (λ (z : Worker). z .links) (a .1) ∙ kl (r .0) ])
-pub fewer-sound : (vs ws : List Worker) (k : ℕ) → Apart vs → Within vs ws → Sound-workers ws k → Sound-workers vs k
-fewer-sound vs ws k u sub h = record {
-    apart = u;
-    below = λ q x e. h .below q x (sub q x e);
-    links-below = λ q l x e a. h .links-below q l x (sub q x e) a;
-    both = λ p q x y e d a. h .both p q x y (sub p x e) (sub q y d) a }
+change-sound ws n k f kp kl h = same-links-sound (change ws n f) ws k (apart-change ws n f kp (h .apart)) (λ p y e. let r = found-before-change ws n f kp p y e in (r .0, r .1, same-links p (r .0) y (elim (r .2) [ inl a ↦ ap (λ (z : Worker). z .links) (a .1) | inr a ↦ ap (λ (z : Worker). z .links) (a .1) ∙ kl (r .0) ]))) h
 pub gone-sound : (ws : List Worker) (n k : ℕ) → Sound-workers ws k → Sound-workers (gone ws n) k
-gone-sound ws n k h = fewer-sound (gone ws n) ws k (apart-gone ws n (h .apart)) (gone-within ws n (h .apart)) h
+gone-sound ws n k h = same-links-sound (gone ws n) ws k (apart-gone ws n (h .apart)) (λ p y e. (y, gone-within ws n (h .apart) p y e, same-links p y y refl)) h
 -- a new worker, with the next number and no links
 pub new-sound : (ws : List Worker) (k : ℕ) (v : Worker) → v .pid ≡ k → v .links ≡ [] → Sound-workers ws k → Sound-workers (ws ++ (v ∷ [])) (k + 1)
 new-sound ws k v p n h = record {
@@ -93,42 +113,39 @@ new-sound ws k v p n h = record {
     no-links l x e a = no-clash a (ap (λ (z : Worker). among l (z .links)) e ∙ ap (among l) n)
     was : (q : ℕ) (x : Worker) → find (ws ++ (v ∷ [])) q ≡ some x → (find ws q ≡ some x) ⊎ ((q ≡ k) × (x ≡ v))
     was q x e = elim (found-before-new ws v q x e) [ inl a ↦ inl a | inr a ↦ inr (a .0 ∙ p, a .1) ]
--- one side of a link made
-add-link-step : (ws : List Worker) (n a p : ℕ) (y : Worker) → find (change ws n (add-link a)) p ≡ some y → (x : Worker) × (find ws p ≡ some x) × ((l : ℕ) → among l (y .links) ≡ true → (among l (x .links) ≡ true) ⊎ ((p ≡ n) × (l ≡ a))) × ((l : ℕ) → among l (x .links) ≡ true → among l (y .links) ≡ true) × (p ≡ n → among a (y .links) ≡ true)
-add-link-step ws n a p y e = let r = found-before-change ws n (add-link a) (add-link-keeps a) p y e in go (r .0) (r .1) (r .2)
-  where
-    go : (x : Worker) → find ws p ≡ some x → ((p ≡ n → ⊥) × (y ≡ x)) ⊎ ((p ≡ n) × (y ≡ add-link a x)) → (x : Worker) × (find ws p ≡ some x) × ((l : ℕ) → among l (y .links) ≡ true → (among l (x .links) ≡ true) ⊎ ((p ≡ n) × (l ≡ a))) × ((l : ℕ) → among l (x .links) ≡ true → among l (y .links) ≡ true) × (p ≡ n → among a (y .links) ≡ true)
-    go x d (inl h) = (x, d, λ l b. inl (subst (λ (z : Worker). among l (z .links) ≡ true) (h .1) b), λ l b. subst (λ (z : Worker). among l (z .links) ≡ true) (sym (h .1)) b, λ b. absurd (h .0 b))
-    go x d (inr h) = (x, d, λ l b. elim (add-link-in l a x (subst (λ (z : Worker). among l (z .links) ≡ true) (h .1) b)) [ inl c ↦ inl c | inr c ↦ inr (h .0, c) ], λ l b. subst (λ (z : Worker). among l (z .links) ≡ true) (sym (h .1)) (add-link-more l a x b), λ b. subst (λ (z : Worker). among a (z .links) ≡ true) (sym (h .1)) (add-link-new a x))
+-- a link is made, or cut, on one side and then on the other
+add-link-relinked : (ws : List Worker) (n a : ℕ) → Relinked (One n a) None (change ws n (add-link a)) ws
+add-link-relinked ws n a p y e = let r = found-before-change ws n (add-link a) (add-link-keeps a) p y e in (r .0, r .1, elim (r .2) [
+    inl h ↦ subst (Relinked-worker (One n a) None p (r .0)) (sym (h .1)) (record { from = λ l b. inl (b, λ z. z); kept = λ l b c. b; made = λ l m. absurd (h .0 (m .0)) })
+  | inr h ↦ subst (Relinked-worker (One n a) None p (r .0)) (sym (h .1)) (record {
+      from = λ l b. elim (add-link-in l a (r .0) b) [ inl c ↦ inl (c, λ z. z) | inr c ↦ inr (h .0, c) ];
+      kept = λ l b c. add-link-more l a (r .0) b;
+      made = λ l m. subst (λ (z : ℕ). among z (add-link a (r .0) .links) ≡ true) (sym (m .1)) (add-link-new a (r .0)) }) ])
+cut-link-relinked : (ws : List Worker) (n a : ℕ) → Relinked None (One n a) (change ws n (cut-link a)) ws
+cut-link-relinked ws n a p y e = let r = found-before-change ws n (cut-link a) (λ w. refl) p y e in (r .0, r .1, elim (r .2) [
+    inl h ↦ subst (Relinked-worker None (One n a) p (r .0)) (sym (h .1)) (record { from = λ l b. inl (b, λ c. h .0 (c .0)); kept = λ l b c. b; made = λ l m. absurd m })
+  | inr h ↦ subst (Relinked-worker None (One n a) p (r .0)) (sym (h .1)) (record {
+      from = λ l b. let other : l ≡ a → ⊥ = λ z. no-clash b (subst (λ (z : ℕ). among z (without a (r .0 .links)) ≡ false) (sym z) (among-gone a (r .0 .links))) in inl (sym (among-without l a (r .0 .links) other) ∙ b, λ c. other (c .1));
+      kept = λ l b c. among-without l a (r .0 .links) (λ z. c (h .0, z)) ∙ b;
+      made = λ l m. absurd m }) ])
+either-way : (a b p l : ℕ) → One a b p l ⊎ One b a p l → One a b l p ⊎ One b a l p
+either-way a b p l (inl c) = inr (c .1, c .0)
+either-way a b p l (inr c) = inl (c .1, c .0)
+neither-way : (p l : ℕ) → None p l ⊎ None p l → None l p ⊎ None l p
+neither-way p l (inl c) = inl c
+neither-way p l (inr c) = inr c
 pub link-sound : (ws : List Worker) (me q k : ℕ) (u v : Worker) → find ws me ≡ some u → find ws q ≡ some v → Sound-workers ws k → Sound-workers (change (change ws me (add-link q)) q (add-link me)) k
-link-sound ws me q k u v fu fv h = record {
-    apart = apart-change (change ws me (add-link q)) q (add-link me) (add-link-keeps me) (apart-change ws me (add-link q) (add-link-keeps q) (h .apart));
-    below = λ p y e. let r = was p y e in h .below p (r .0) (r .1);
-    links-below = λ p l y e a. let r = was p y e in elim (r .2 l a) [ inl b ↦ h .links-below p l (r .0) (r .1) b | inr b ↦ elim b [ inl c ↦ subst (λ (z : ℕ). z < k) (sym (c .1)) (h .below q v fv) | inr c ↦ subst (λ (z : ℕ). z < k) (sym (c .1)) (h .below me u fu) ] ];
-    both = λ p r x y e d a. let i = was p x e in let o = was r y d in elim (i .2 r a) [
-        inl b ↦ o .3 p (h .both p r (i .0) (o .0) (i .1) (o .1) b)
-      | inr b ↦ elim b [ inl c ↦ subst (λ (z : ℕ). among z (y .links) ≡ true) (sym (c .0)) (o .5 (c .1)) | inr c ↦ subst (λ (z : ℕ). among z (y .links) ≡ true) (sym (c .0)) (o .4 (c .1)) ] ] }
+link-sound ws me q k u v fu fv h = relinked-sound (λ p l. One q me p l ⊎ One me q p l) (λ p l. None p l ⊎ None p l) (change (change ws me (add-link q)) q (add-link me)) ws k (either-way q me) neither-way low
+    (apart-change (change ws me (add-link q)) q (add-link me) (add-link-keeps me) (apart-change ws me (add-link q) (add-link-keeps q) (h .apart)))
+    (relinked-twice (One q me) None (One me q) None (change (change ws me (add-link q)) q (add-link me)) (change ws me (add-link q)) ws (λ p l m c. c) (add-link-relinked (change ws me (add-link q)) q me) (add-link-relinked ws me q)) h
   where
-    was : (p : ℕ) (y : Worker) → find (change (change ws me (add-link q)) q (add-link me)) p ≡ some y → (x : Worker) × (find ws p ≡ some x) × ((l : ℕ) → among l (y .links) ≡ true → (among l (x .links) ≡ true) ⊎ (((p ≡ me) × (l ≡ q)) ⊎ ((p ≡ q) × (l ≡ me)))) × ((l : ℕ) → among l (x .links) ≡ true → among l (y .links) ≡ true) × (p ≡ me → among q (y .links) ≡ true) × (p ≡ q → among me (y .links) ≡ true)
-    was p y e = let i = add-link-step (change ws me (add-link q)) q me p y e in let o = add-link-step ws me q p (i .0) (i .1) in
-      (o .0, o .1, λ l a. elim (i .2 l a) [ inl b ↦ elim (o .2 l b) [ inl c ↦ inl c | inr c ↦ inr (inl c) ] | inr b ↦ inr (inr b) ], λ l a. i .3 l (o .3 l a), λ a. i .3 q (o .4 a), λ a. i .4 a)
--- one side of a link taken away
-cut-link-step : (ws : List Worker) (n a p : ℕ) (y : Worker) → find (change ws n (cut-link a)) p ≡ some y → (x : Worker) × (find ws p ≡ some x) × ((l : ℕ) → among l (y .links) ≡ true → (among l (x .links) ≡ true) × (p ≡ n → l ≡ a → ⊥)) × ((l : ℕ) → among l (x .links) ≡ true → (p ≡ n → l ≡ a → ⊥) → among l (y .links) ≡ true)
-cut-link-step ws n a p y e = let r = found-before-change ws n (cut-link a) (λ w. refl) p y e in go (r .0) (r .1) (r .2)
-  where
-    go : (x : Worker) → find ws p ≡ some x → ((p ≡ n → ⊥) × (y ≡ x)) ⊎ ((p ≡ n) × (y ≡ cut-link a x)) → (x : Worker) × (find ws p ≡ some x) × ((l : ℕ) → among l (y .links) ≡ true → (among l (x .links) ≡ true) × (p ≡ n → l ≡ a → ⊥)) × ((l : ℕ) → among l (x .links) ≡ true → (p ≡ n → l ≡ a → ⊥) → among l (y .links) ≡ true)
-    go x d (inl h) = (x, d, λ l b. (subst (λ (z : Worker). among l (z .links) ≡ true) (h .1) b, λ c e. h .0 c), λ l b c. subst (λ (z : Worker). among l (z .links) ≡ true) (sym (h .1)) b)
-    go x d (inr h) = (x, d, λ l b. let b2 = subst (λ (z : Worker). among l (z .links) ≡ true) (h .1) b in let ne : l ≡ a → ⊥ = λ r. no-clash b2 (subst (λ (z : ℕ). among z (without a (x .links)) ≡ false) (sym r) (among-gone a (x .links))) in (sym (among-without l a (x .links) ne) ∙ b2, λ c r. ne r), λ l b c. subst (λ (z : Worker). among l (z .links) ≡ true) (sym (h .1)) (among-without l a (x .links) (c (h .0)) ∙ b))
+    low : (p l : ℕ) → One q me p l ⊎ One me q p l → l < k
+    low p l (inl c) = subst (λ (z : ℕ). z < k) (sym (c .1)) (h .below me u fu)
+    low p l (inr c) = subst (λ (z : ℕ). z < k) (sym (c .1)) (h .below q v fv)
 pub cut-sound : (ws : List Worker) (a b k : ℕ) → Sound-workers ws k → Sound-workers (change (change ws a (cut-link b)) b (cut-link a)) k
-cut-sound ws a b k h = record {
-    apart = apart-change (change ws a (cut-link b)) b (cut-link a) (λ w. refl) (apart-change ws a (cut-link b) (λ w. refl) (h .apart));
-    below = λ p y e. let r = was p y e in h .below p (r .0) (r .1);
-    links-below = λ p l y e m. let r = was p y e in h .links-below p l (r .0) (r .1) (r .2 l m .0);
-    both = λ p r x y e d m. let i = was p x e in let o = was r y d in let t = i .2 r m in o .3 p (h .both p r (i .0) (o .0) (i .1) (o .1) (t .0)) (λ c f. t .2 f c) (λ c f. t .1 f c) }
-  where
-    was : (p : ℕ) (y : Worker) → find (change (change ws a (cut-link b)) b (cut-link a)) p ≡ some y → (x : Worker) × (find ws p ≡ some x) × ((l : ℕ) → among l (y .links) ≡ true → (among l (x .links) ≡ true) × (p ≡ a → l ≡ b → ⊥) × (p ≡ b → l ≡ a → ⊥)) × ((l : ℕ) → among l (x .links) ≡ true → (p ≡ a → l ≡ b → ⊥) → (p ≡ b → l ≡ a → ⊥) → among l (y .links) ≡ true)
-    was p y e = let i = cut-link-step (change ws a (cut-link b)) b a p y e in let o = cut-link-step ws a b p (i .0) (i .1) in
-      (o .0, o .1, λ l m. let u = i .2 l m in let v = o .2 l (u .0) in (v .0, v .1, u .1), λ l m c d. i .3 l (o .3 l m c) d)
+cut-sound ws a b k h = relinked-sound (λ p l. None p l ⊎ None p l) (λ p l. One b a p l ⊎ One a b p l) (change (change ws a (cut-link b)) b (cut-link a)) ws k neither-way (either-way b a) (λ p l m. elim m [ inl z ↦ absurd z | inr z ↦ absurd z ])
+    (apart-change (change ws a (cut-link b)) b (cut-link a) (λ w. refl) (apart-change ws a (cut-link b) (λ w. refl) (h .apart)))
+    (relinked-twice None (One b a) None (One a b) (change (change ws a (cut-link b)) b (cut-link a)) (change ws a (cut-link b)) ws (λ p l m c. m) (cut-link-relinked (change ws a (cut-link b)) b a) (cut-link-relinked ws a b)) h
 
 -- each thing that a turn does keeps it
 pub effect-sound : (g : Program) (s : System) (w : Scope) (me : ℕ) (u : Worker) (t : System) → find (s .workers) me ≡ some u → Effect g s w me t → Sound s → Sound t
