@@ -1,4 +1,5 @@
--- Stretches of moves of the scheduler without a certain move are short.
+-- Every order of moves that the scheduler makes is fair: each step brings whoever waits in the queue nearer by as many
+-- moves as it makes, so a stretch without a certain move is short (`stretch-short`), shorter than what counts as long.
 use mathlib.Core.Path.{_≡_, refl, sym, ap, subst, _∙_}
 use mathlib.Core.Logic.{_⊎_, inl, inr}
 use mathlib.Core.List.{List, [], _∷_, _++_, append-assoc, append-nil}
@@ -119,46 +120,49 @@ all-through-now : (g : Program) (s : System) (b : List Move) (P : System → Typ
 all-through-now g s b P all = all [] b s refl refl
 all-through-later : (g : Program) (s s′ : System) (x : Move) (l : List Move) (P : System → Type 0) → move g s x ≡ is s′ → All-through g s (x ∷ l) P → All-through g s′ l P
 all-through-later g s s′ x l P e all = λ c d t h k. all (x ∷ c) d t (ap (λ y. x ∷ y) h) (ap (λ r. on-is r (λ u. moves g u c)) e ∙ k)
-
-turn-short : {g : Program} {s : System} {m : Mode} {es : List Entry} {b : List Move} (q n : ℕ) → Runs g s m es b → At (worker q) n es → All-through g s b (λ u. Could g u q) → (In (turn q) b → ⊥) → length b ≤ suc (moves-until m n)
-turn-short q n stop a all h = omega arith
-turn-short q n any-move a all h = omega arith
-turn-short {g} {s} {m} {es} {b} q n (quietly {s′ = s′} {m′ = m′} {es′ = es′} st d i r) a all h =
-    go (step-nearer g s (worker q) n st (λ e. could-not-gone g s′ q e (all-through-now g s′ b (λ u. Could g u q) all′)) a) (λ k c. turn-short q k r c all′ h)
+-- a stretch without the move x is short, if each step brings x nearer, as `Due-in` counts, or is x, or nearly ends the
+-- stretch
+abbrev Nearly-ends : Program → Move → List Move → System → Mode → List Entry → Type 0
+Nearly-ends g x l s m es = (b : List Move) → Runs g s m es b → (In x (l ++ b) → ⊥) → length (l ++ b) ≤ 1
+abbrev Nears : Program → (System → Type 0) → Move → (Mode → List Entry → ℕ → Type 0) → Type 0
+Nears g P x Due-in = (s s′ : System) (m m′ : Mode) (es es′ : List Entry) (l : List Move) (n : ℕ) → Step g s m es l s′ m′ es′ → P s → P s′ → Due-in m es n → ((k : ℕ) × (length l + k ≤ n) × Due-in m′ es′ k) ⊎ Nearly-ends g x l s′ m′ es′
+stretch-short : (g : Program) (P : System → Type 0) (x : Move) (Due-in : Mode → List Entry → ℕ → Type 0) → Nears g P x Due-in → {s : System} {m : Mode} {es : List Entry} {b : List Move} (n : ℕ) → Runs g s m es b → Due-in m es n → All-through g s b P → (In x b → ⊥) → length b ≤ suc n
+stretch-short g P x Due-in step n stop a all h = omega arith
+stretch-short g P x Due-in step n any-move a all h = omega arith
+stretch-short g P x Due-in step {s} {m} {es} {b} n (quietly {s′ = s′} {m′ = m′} {es′ = es′} st d i r) a all h =
+    go (step s s′ m m′ es es′ [] n st (all-through-now g s b P all) (all-through-now g s′ b P all′) a) (λ k c. stretch-short g P x Due-in step k r c all′ h)
   where
-    all′ : All-through g s′ b (λ u. Could g u q)
-    all′ = subst (λ z. All-through g z b (λ u. Could g u q)) d all
-    go : Nearer-by m (worker q) n [] m′ es′ ⊎ Served (worker q) [] s m′ → ((k : ℕ) → At (worker q) k es′ → length b ≤ suc (moves-until m′ k)) → length b ≤ suc (moves-until m n)
-    go (inl (k, c, le)) ih = let j = ih k c in omega arith
-    go (inr (e, (k, f))) ih = let j = serving-short q k r f h in omega arith
-turn-short {g} {s} {m} {es} q n (moving {s′ = s′} {m′ = m′} {es′ = es′} {x = x} {l = l} st d i r) a all h =
-    go (step-nearer g s (worker q) n st (λ e. could-not-gone g s′ q e (all-through-now g s′ l (λ u. Could g u q) all′)) a) (λ k c. turn-short q k r c all′ (λ y. h (there y)))
+    all′ : All-through g s′ b P
+    all′ = subst (λ z. All-through g z b P) d all
+    go : ((k : ℕ) × (0 + k ≤ n) × Due-in m′ es′ k) ⊎ Nearly-ends g x [] s′ m′ es′ → ((k : ℕ) → Due-in m′ es′ k → length b ≤ suc k) → length b ≤ suc n
+    go (inl (k, le, c)) ih = let j = ih k c in omega arith
+    go (inr f) ih = let j = f b r h in omega arith
+stretch-short g P x Due-in step {s} {m} {es} n (moving {s′ = s′} {m′ = m′} {es′ = es′} {x = y} {l = l} st d i r) a all h =
+    go (step s s′ m m′ es es′ (y ∷ []) n st (all-through-now g s (y ∷ l) P all) (all-through-now g s′ l P all′) a) (λ k c. stretch-short g P x Due-in step k r c all′ (λ z. h (there z)))
   where
-    all′ : All-through g s′ l (λ u. Could g u q)
-    all′ = all-through-later g s s′ x l (λ u. Could g u q) d all
-    go : Nearer-by m (worker q) n (x ∷ []) m′ es′ ⊎ Served (worker q) (x ∷ []) s m′ → ((k : ℕ) → At (worker q) k es′ → length l ≤ suc (moves-until m′ k)) → length (x ∷ l) ≤ suc (moves-until m n)
-    go (inl (k, c, le)) ih = let j = ih k c in omega arith
-    go (inr (e, y)) ih = impossible (cc)
-
-tick-short : {g : Program} {s : System} {m : Mode} {es : List Entry} {b : List Move} (n : ℕ) → Runs g s m es b → At round n es → All-through g s b Waits-later → (In tick b → ⊥) → length b ≤ suc (moves-until m n)
-tick-short n stop a all h = omega arith
-tick-short n any-move a all h = omega arith
-tick-short {g} {s} {m} {es} {b} n (quietly {s′ = s′} {m′ = m′} {es′ = es′} st d i r) a all h =
-    go (step-nearer g s round n st tt a) (λ k c. tick-short k r c all′ h)
+    all′ : All-through g s′ l P
+    all′ = all-through-later g s s′ y l P d all
+    go : ((k : ℕ) × (1 + k ≤ n) × Due-in m′ es′ k) ⊎ Nearly-ends g x (y ∷ []) s′ m′ es′ → ((k : ℕ) → Due-in m′ es′ k → length l ≤ suc k) → length (y ∷ l) ≤ suc n
+    go (inl (k, le, c)) ih = let j = ih k c in omega arith
+    go (inr f) ih = let j = f l r h in omega arith
+by-the-move : {g : Program} {s : System} {m : Mode} {es : List Entry} {l : List Move} (x : Move) → l ≡ x ∷ [] → Nearly-ends g x l s m es
+by-the-move x e b r h = absurd (h (subst (λ z. In x (z ++ b)) (sym e) here))
+-- an entry of the queue: a worker is served, and the round ends
+abbrev Place-in : Entry → Mode → List Entry → ℕ → Type 0
+Place-in x m es n = (k : ℕ) × At x k es × (moves-until m k ≤ n)
+turn-nears : (g : Program) (q : ℕ) → Nears g (λ u. Could g u q) (turn q) (Place-in (worker q))
+turn-nears g q s s′ m m′ es es′ l n st c c′ (k, a, le) = go (step-nearer g s (worker q) k st (λ e. could-not-gone g s′ q e c′) a)
   where
-    all′ : All-through g s′ b Waits-later
-    all′ = subst (λ z. All-through g z b Waits-later) d all
-    go : Nearer-by m round n [] m′ es′ ⊎ Served round [] s m′ → ((k : ℕ) → At round k es′ → length b ≤ suc (moves-until m′ k)) → length b ≤ suc (moves-until m n)
-    go (inl (k, c, le)) ih = let j = ih k c in omega arith
-    go (inr (inl e)) ih = impossible (cc)
-    go (inr (inr (e, f))) ih = absurd (f (all-through-now g s b Waits-later all))
-tick-short {g} {s} {m} {es} n (moving {s′ = s′} {m′ = m′} {es′ = es′} {x = x} {l = l} st d i r) a all h =
-    go (step-nearer g s round n st tt a) (λ k c. tick-short k r c (all-through-later g s s′ x l Waits-later d all) (λ y. h (there y)))
+    go : Nearer-by m (worker q) k l m′ es′ ⊎ Served (worker q) l s m′ → ((j : ℕ) × (length l + j ≤ n) × Place-in (worker q) m′ es′ j) ⊎ Nearly-ends g (turn q) l s′ m′ es′
+    go (inl (j, b, d)) = inl (moves-until m′ j, omega arith, (j, b, omega arith))
+    go (inr (e, (j, f))) = inr (λ b r h. let y = serving-short q j r f (λ i. h (subst (λ z. In (turn q) (z ++ b)) (sym e) i)) in let z : length (l ++ b) ≡ length b = ap (λ c. length (c ++ b)) e in omega arith)
+tick-nears : (g : Program) → Nears g Waits-later tick (Place-in round)
+tick-nears g s s′ m m′ es es′ l n st c c′ (k, a, le) = go (step-nearer g s round k st tt a)
   where
-    go : Nearer-by m round n (x ∷ []) m′ es′ ⊎ Served round (x ∷ []) s m′ → ((k : ℕ) → At round k es′ → length l ≤ suc (moves-until m′ k)) → length (x ∷ l) ≤ suc (moves-until m n)
-    go (inl (k, c, le)) ih = let j = ih k c in omega arith
-    go (inr (inl e)) ih = let y : x ≡ tick = cc in absurd (h (subst (λ z. In tick (z ∷ l)) (sym y) here))
-    go (inr (inr (e, f))) ih = absurd (f (all-through-now g s (x ∷ l) Waits-later all))
+    go : Nearer-by m round k l m′ es′ ⊎ Served round l s m′ → ((j : ℕ) × (length l + j ≤ n) × Place-in round m′ es′ j) ⊎ Nearly-ends g tick l s′ m′ es′
+    go (inl (j, b, d)) = inl (moves-until m′ j, omega arith, (j, b, omega arith))
+    go (inr (inl e)) = inr (by-the-move tick e)
+    go (inr (inr (e, f))) = absurd (f c)
 
 -- signals are delivered after each slice
 abbrev until-signal : Mode → ℕ
@@ -192,25 +196,39 @@ step-signal-sooner {s = s} (by-pop {k = k} {p = p} t i f) = go k i
     go zero i = inl (omega arith)
     go (suc k) (inl e) = inl (omega arith)
     go (suc k) (inr e) = inr (inr e)
-signal-short : {g : Program} {s : System} {m : Mode} {es : List Entry} {b : List Move} → Runs g s m es b → All-through g s b (λ u. u .signals ≡ [] → ⊥) → (In signal b → ⊥) → length b ≤ suc (until-signal m)
-signal-short stop all h = omega arith
-signal-short any-move all h = omega arith
-signal-short {g} {s} {m} {es} {b} (quietly {s′ = s′} {m′ = m′} st d i r) all h = go (step-signal-sooner st) (signal-short r (subst (λ z. All-through g z b (λ u. u .signals ≡ [] → ⊥)) d all) h)
+abbrev Signal-in : Mode → List Entry → ℕ → Type 0
+Signal-in m es n = until-signal m ≤ n
+signal-nears : (g : Program) → Nears g (λ u. u .signals ≡ [] → ⊥) signal Signal-in
+signal-nears g s s′ m m′ es es′ l n st c c′ le = go (step-signal-sooner st)
   where
-    go : Signal-sooner s m [] m′ → length b ≤ suc (until-signal m′) → length b ≤ suc (until-signal m)
-    go (inl le) ih = omega arith
-    go (inr (inl e)) ih = impossible (cc)
-    go (inr (inr e)) ih = absurd (all-through-now g s b (λ u. u .signals ≡ [] → ⊥) all e)
-signal-short {g} {s} {m} {es} (moving {s′ = s′} {m′ = m′} {x = x} {l = l} st d i r) all h = go (step-signal-sooner st) (signal-short r (all-through-later g s s′ x l (λ u. u .signals ≡ [] → ⊥) d all) (λ y. h (there y)))
-  where
-    go : Signal-sooner s m (x ∷ []) m′ → length l ≤ suc (until-signal m′) → length (x ∷ l) ≤ suc (until-signal m)
-    go (inl le) ih = omega arith
-    go (inr (inl e)) ih = let y : x ≡ signal = cc in absurd (h (subst (λ z. In signal (z ∷ l)) (sym y) here))
-    go (inr (inr e)) ih = absurd (all-through-now g s (x ∷ l) (λ u. u .signals ≡ [] → ⊥) all e)
-until-signal-bounded : (m : Mode) → Small m → suc (until-signal m) ≤ 4096
-until-signal-bounded (serve p k) h = omega arith
-until-signal-bounded (flush zero) h = omega arith
-until-signal-bounded (flush (suc k)) h = omega arith
+    go : Signal-sooner s m l m′ → ((k : ℕ) × (length l + k ≤ n) × Signal-in m′ es′ k) ⊎ Nearly-ends g signal l s′ m′ es′
+    go (inl d) = inl (until-signal m′, omega arith, omega arith)
+    go (inr (inl e)) = inr (by-the-move signal e)
+    go (inr (inr e)) = absurd (c e)
+-- so no stretch without the move is long
+abbrev Short : Program → System → List Move → Type 0
+Short g t b = length b ≤ 4096 * (1 + able g t (t .workers))
+module _ (g : Program) (t : System) (es : List Entry) (b : List Move) where
+  turn-in-time : (q : ℕ) (m : Mode) → Queues g t m es → Runs g t m es b → All-through g t b (λ v. Could g v q) → (In (turn q) b → ⊥) → Short g t b
+  turn-in-time q m i r all f = go m i r (i .all q (all-through-now g t b (λ v. Could g v q) all))
+    where
+      queued-there : (m : Mode) → Queues g t m es → Runs g t m es b → Mem (worker q) es → Short g t b
+      queued-there m i r (n, a) = let le = stretch-short g (λ v. Could g v q) (turn q) (Place-in (worker q)) (turn-nears g q) (moves-until m n) r (n, a, omega arith) all f in let y = moves-until-bounded g t m es (worker q) n i a in omega arith
+      side : (p k : ℕ) → Queues g t (serve p k) es → Runs g t (serve p k) es b → (worker q ≡ worker p) ⊎ Mem (worker q) es → Short g t b
+      side p k i r (inl d) = let z : p ≡ q = cc in let le = serving-short q k r (ap (λ o. serve o k) z) f in omega arith
+      side p k i r (inr a) = queued-there (serve p k) i r a
+      go : (m : Mode) → Queues g t m es → Runs g t m es b → Mem (worker q) (queued m es) → Short g t b
+      go (serve p k) i r a = side p k i r (Mem-cases a)
+      go (flush k) i r a = queued-there (flush k) i r a
+  tick-in-time : (m : Mode) → Queues g t m es → Runs g t m es b → All-through g t b Waits-later → (In tick b → ⊥) → Short g t b
+  tick-in-time m i r all f = let n = i .rounds .0 in let le = stretch-short g Waits-later tick (Place-in round) (tick-nears g) (moves-until m n) r (n, i .rounds .1, omega arith) all f in let y = moves-until-bounded g t m es round n i (i .rounds .1) in omega arith
+  signal-in-time : (m : Mode) → Queues g t m es → Runs g t m es b → All-through g t b (λ v. v .signals ≡ [] → ⊥) → (In signal b → ⊥) → Short g t b
+  signal-in-time m i r all f = let le = stretch-short g (λ v. v .signals ≡ [] → ⊥) signal Signal-in (signal-nears g) (until-signal m) r (omega arith) all f in let y = small m (i .small) in omega arith
+    where
+      small : (m : Mode) → Small m → suc (until-signal m) ≤ 4096
+      small (serve p k) h = omega arith
+      small (flush zero) h = omega arith
+      small (flush (suc k)) h = omega arith
 
 -- what is left after some moves, and a part of it from its front
 record Rest (g : Program) (t : System) (r : List Move) : Type 0 where
@@ -250,44 +268,22 @@ runs-front (quietly st d j u) [] c e = stop
 runs-front (quietly st d j u) (x ∷ b) c e = quietly st d j (runs-front u (x ∷ b) c e)
 runs-front (moving st d j u) [] c e = stop
 runs-front {g} {s} {m} {es} (moving {x = y} {l = l} st d j u) (x ∷ b) c e = subst (λ z. Runs g s m es (z ∷ b)) (head-is e) (moving st d j (runs-front u b c (tail-is e)))
-
 module _ (g : Program) where
-  long-not-none : (b c : List Move) (n : ℕ) → b ++ c ≡ [] → n < length b → ⊥
-  long-not-none b c n e h = let y : length b ≡ 0 = ap length (sym (append-none-left b c (sym e))) in omega arith
-  runs-fair : {s : System} {m : Mode} {es : List Entry} {l : List Move} → Queues g s m es → Runs g s m es l → Fair g s l
-  runs-fair {s} {m} {es} {l} i u = record { turns = for-turns; signals = for-signals; times = for-times }
+  -- a long stretch of the order has the move
+  long-has : {s : System} {m : Mode} {es : List Entry} {l : List Move} → Queues g s m es → Runs g s m es l → (x : Move) (a b c : List Move) (t : System) → l ≡ a ++ (b ++ c) → moves g s a ≡ is t → 4096 * (1 + able g t (t .workers)) < length b → ((es : List Entry) (m : Mode) → Queues g t m es → Runs g t m es b → (In x b → ⊥) → Short g t b) → In x b
+  long-has i u x a b c t e h long short = go (rest-after g u a (b ++ c) t i e h) (In-or-not x b)
     where
-      for-turns : (a b c : List Move) (t : System) (q : ℕ) → l ≡ a ++ (b ++ c) → moves g s a ≡ is t → All-through g t b (λ v. Could g v q) → 4096 * (1 + able g t (t .workers)) < length b → In (turn q) b
-      for-turns a b c t q e h all lt = go (rest-after g u a (b ++ c) t i e h) (In-or-not (turn q) b)
-        where
-          short : (m : Mode) (es : List Entry) → Queues g t m es → Runs g t m es b → Mem (worker q) (queued m es) → (In (turn q) b → ⊥) → ⊥
-          short (serve p k) es j v y f = side (Mem-cases y)
-            where
-              side : (worker q ≡ worker p) ⊎ Mem (worker q) es → ⊥
-              side (inl d) = let z : p ≡ q = cc in let le = serving-short q k v (ap (λ o. serve o k) z) f in omega arith
-              side (inr (n, w)) = let le = turn-short q n v w all f in let bd = moves-until-bounded g t (serve p k) es (worker q) n j w in omega arith
-          short (flush k) es j v (n, w) f = let le = turn-short q n v w all f in let bd = moves-until-bounded g t (flush k) es (worker q) n j w in omega arith
-          go : (b ++ c ≡ []) ⊎ Rest g t (b ++ c) → In (turn q) b ⊎ (In (turn q) b → ⊥) → In (turn q) b
-          go w (inl y) = y
-          go (inl d) (inr f) = absurd (long-not-none b c _ d lt)
-          go (inr w) (inr f) = absurd (short (w .mode) (w .queue) (w .exact) (runs-front (w .runs) b c refl) (w .exact .all q (all-through-now g t b (λ v. Could g v q) all)) f)
-      for-signals : (a b c : List Move) (t : System) → l ≡ a ++ (b ++ c) → moves g s a ≡ is t → All-through g t b (λ v. v .signals ≡ [] → ⊥) → 4096 * (1 + able g t (t .workers)) < length b → In signal b
-      for-signals a b c t e h all lt = go (rest-after g u a (b ++ c) t i e h) (In-or-not signal b)
-        where
-          go : (b ++ c ≡ []) ⊎ Rest g t (b ++ c) → In signal b ⊎ (In signal b → ⊥) → In signal b
-          go w (inl y) = y
-          go (inl d) (inr f) = absurd (long-not-none b c _ d lt)
-          go (inr w) (inr f) = let le = signal-short (runs-front (w .runs) b c refl) all f in let bd = until-signal-bounded (w .mode) (w .exact .small) in absurd (omega arith)
-      for-times : (a b c : List Move) (t : System) → l ≡ a ++ (b ++ c) → moves g s a ≡ is t → All-through g t b (λ v. Waits-later v) → 4096 * (1 + able g t (t .workers)) < length b → In tick b
-      for-times a b c t e h all lt = go (rest-after g u a (b ++ c) t i e h) (In-or-not tick b)
-        where
-          go : (b ++ c ≡ []) ⊎ Rest g t (b ++ c) → In tick b ⊎ (In tick b → ⊥) → In tick b
-          go w (inl y) = y
-          go (inl d) (inr f) = absurd (long-not-none b c _ d lt)
-          go (inr w) (inr f) =
-            let y = w .exact .rounds in
-            let le = tick-short (y .0) (runs-front (w .runs) b c refl) (y .1) all f in
-            let bd = moves-until-bounded g t (w .mode) (w .queue) round (y .0) (w .exact) (y .1) in absurd (omega arith)
+      none-long : b ++ c ≡ [] → ⊥
+      none-long d = let y : length b ≡ 0 = ap length (sym (append-none-left b c (sym d))) in omega arith
+      go : (b ++ c ≡ []) ⊎ Rest g t (b ++ c) → In x b ⊎ (In x b → ⊥) → In x b
+      go w (inl y) = y
+      go (inl d) (inr f) = absurd (none-long d)
+      go (inr w) (inr f) = let le = short (w .queue) (w .mode) (w .exact) (runs-front (w .runs) b c refl) f in absurd (omega arith)
+  runs-fair : {s : System} {m : Mode} {es : List Entry} {l : List Move} → Queues g s m es → Runs g s m es l → Fair g s l
+  runs-fair i u = record {
+      turns = λ a b c t q e h all long. long-has i u (turn q) a b c t e h long (λ es m j r f. turn-in-time g t es b q m j r all f);
+      signals = λ a b c t e h all long. long-has i u signal a b c t e h long (λ es m j r f. signal-in-time g t es b m j r all f);
+      times = λ a b c t e h all long. long-has i u tick a b c t e h long (λ es m j r f. tick-in-time g t es b m j r all f) }
 
 -- steps that were made, with what is to come
 step-then-runs : {g : Program} {s s′ : System} {m m′ : Mode} {es es′ : List Entry} {x r : List Move} → Step g s m es x s′ m′ es′ → Queues g s′ m′ es′ → Runs g s′ m′ es′ r → Runs g s m es (x ++ r)
