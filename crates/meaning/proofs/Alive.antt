@@ -1,5 +1,5 @@
--- A queue without the workers that are no more: what is left keeps its order, and those that are passed over now are
--- passed over later too.
+-- A queue without the workers that are no more: what is left keeps its order, and whoever is passed over now is passed
+-- over later too.
 use mathlib.Core.Path.{_≡_, refl, ap, sym, _∙_}
 use mathlib.Core.Logic.{_⊎_, inl, inr}
 use mathlib.Core.List.{List, [], _∷_, _++_}
@@ -24,7 +24,7 @@ alive-kept s (worker p ∷ es) = go (find (s .workers) p) refl (alive-kept s es)
     go none e ih = leave e ih
     go (some w) e ih = keep ih
 
--- those that became able by a move, but for n
+-- whoever is left is there
 pub alive-there : (t : System) (es : List Entry) (q : ℕ) → Mem (worker q) (alive t es) → find (t .workers) q ≡ none → ⊥
 alive-there t [] q m e = At-none (m .1)
 alive-there t (round ∷ es) q m e = go (Mem-cases m) (λ a. alive-there t es q a e)

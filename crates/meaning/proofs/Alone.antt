@@ -1,5 +1,5 @@
--- A turn leaves the other workers alone: an effect adds at most one message, and links; the end of the worker whose turn
--- it is touches nobody; a swap spares whoever has no old code.
+-- A turn leaves the other workers alone: an effect adds at most one message, and links; the end of the worker whose
+-- turn it is touches nobody; a swap spares whoever has no old code.
 use mathlib.Core.Path.{_≡_, refl, sym, subst, _∙_}
 use mathlib.Core.Logic.{inl, inr}
 use mathlib.Core.List.{List, [], _∷_, _++_, append-nil}

@@ -1,4 +1,5 @@
--- From the beginning on.
+-- The scheduler from its beginning on: the first queue is exact, steps add up to moves, and whoever is due is past its
+-- time with its next turn.
 use mathlib.Core.Path.{_≡_, refl, sym, ap, subst, _∙_}
 use mathlib.Core.Logic.{_⊎_, inl, inr}
 use mathlib.Core.Bool.{Bool, true, false, cond}

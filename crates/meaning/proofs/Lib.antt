@@ -8,6 +8,7 @@ pub mod Alone
 pub mod Told
 pub mod OwnCode
 pub mod Versions
+pub mod GoodPrograms
 pub mod NeverStuck
 pub mod Numbers
 pub mod Ready

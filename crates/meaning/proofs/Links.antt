@@ -1,5 +1,5 @@
--- The invariant `Sound`: numbers are apart and below the next one, and links go both ways. Links are made and cut on both
--- sides at once, so whatever relation tells which links are new or cut is symmetric (`relinked-sound`).
+-- The invariant `Sound`: numbers are apart and below the next one, and links go both ways. Links are made and cut on
+-- both sides at once, so the relation that tells which links are new, or cut, is symmetric (`relinked-sound`).
 use mathlib.Core.Path.{_≡_, refl, sym, ap, subst, _∙_}
 use mathlib.Core.Logic.{_⊎_, inl, inr}
 use mathlib.Core.Bool.{Bool, true, false, _||_, cond}
@@ -21,7 +21,7 @@ use Rattle.meaning.proofs.Finding.{Keeps-number, apart-change, apart-gone, apa
 use Rattle.meaning.proofs.Results.{OnIs, turn-all, reached-all, at-first, take-signal-all, deliver-all, tick-all, first-worker}
 use Rattle.meaning.proofs.Swapping.{swapped-all}
 
--- membership
+-- members of lists of numbers
 pub among-add : (l x : ℕ) (ls : List ℕ) → among l (ls ++ (x ∷ [])) ≡ (among l ls || eqb l x)
 among-add l x [] = bool-all (λ b. (b || false) ≡ (false || b)) (eqb l x) (λ h. refl) (λ h. refl)
 among-add l x (y ∷ ls) = bool-all (λ b. (b || among l (ls ++ (x ∷ []))) ≡ ((b || among l ls) || eqb l x)) (eqb l y) (λ h. refl) (λ h. among-add l x ls)
@@ -147,7 +147,7 @@ cut-sound ws a b k h = relinked-sound (λ p l. None p l ⊎ None p l) (λ p l. O
     (apart-change (change ws a (cut-link b)) b (cut-link a) (λ w. refl) (apart-change ws a (cut-link b) (λ w. refl) (h .apart)))
     (relinked-twice None (One b a) None (One a b) (change (change ws a (cut-link b)) b (cut-link a)) (change ws a (cut-link b)) ws (λ p l m c. m) (cut-link-relinked (change ws a (cut-link b)) b a) (cut-link-relinked ws a b)) h
 
--- each thing that a turn does keeps it
+-- kept by every effect of a turn, by swaps, by signals and by the clock
 pub effect-sound : (g : Program) (s : System) (w : Scope) (me : ℕ) (u : Worker) (t : System) → find (s .workers) me ≡ some u → Effect g s w me t → Sound s → Sound t
 effect-sound g s w me u t e nothing h = h
 effect-sound g s w me u t e (sent q v) h = change-sound (s .workers) q (s .next) (add-mail v) (λ x. refl) (λ x. refl) h
@@ -175,6 +175,8 @@ pub move-sound : (g : Program) (s : System) (m : Move) → Sound s → OnIs Soun
 move-sound g s (turn n) h = turn-all g s n (OnIs Sound) tt (λ me o p e d v. turned-sound g s n me o e v h)
 move-sound g s signal h = deliver-all Sound (Unit {0}) s (s .signals) (λ x gs i. h) (λ x gs w i e. signal-sound (with-signals s gs) x w h)
 move-sound g s tick h = tick-all Sound (Unit {0}) s (λ t l. h)
+
+-- so it holds of every system that a program comes to
 pub first-sound : (g : Program) (c : Control) → Sound (at-first g c)
 first-sound g c = record {
     apart = (refl, tt);

@@ -1,4 +1,4 @@
--- How many numbers are given out, and that words mean those who are there.
+-- A move gives out at most one number. Names mean workers that are there, since the names of one that ends are freed.
 use mathlib.Core.Path.{_≡_, refl, subst, _∙_}
 use mathlib.Core.List.{List, [], _∷_}
 use mathlib.Core.Option.{some}
@@ -48,7 +48,7 @@ moves-few-new g (m ∷ l) s = go (move g s m) (move-one-new g s m) (λ t. moves-
 pub few-numbers : Few-numbers
 few-numbers g l s r = let a : r .0 .next ≡ 1 = begin-all g (λ b. b .next ≡ 1) (λ c e. refl) (r .0) (r .1) in let b = on-is-of (λ t. t .next ≤ r .0 .next + length l) (moves g (r .0) l) s (moves-few-new g l (r .0)) (r .2) in omega arith
 
--- words mean those who are there
+-- names mean those who are there
 abbrev Found : List Worker → ℕ → Type 0
 Found ws n = (w : Worker) × (find ws n ≡ some w)
 abbrev All-found : List Worker → List Registered → Type 0

@@ -1,4 +1,5 @@
--- What a worker goes on with: properties of its code and frames that turns keep.
+-- What a worker goes on with: a property of controls and frames that a worker's own turn keeps is kept by every move,
+-- since others change no code. So for where code is at work: in which module, in which version.
 use mathlib.Core.Path.{_≡_, refl, sym, ap, subst, _∙_}
 use mathlib.Core.Logic.{_⊎_, inl, inr}
 use mathlib.Core.Bool.{false}
@@ -74,11 +75,11 @@ module _ (PC : Control → Type 0) (PK : List Frame → Type 0) where
   pub settle-every : (s t : System) (n : ℕ) (c : Control) (k : List Frame) → PK [] → As-before-or-new PC s t → Every-worker PC PK (s .workers) → PC c → PK k → Every-worker PC PK (change (t .workers) n (set-control c k))
   settle-every s t n c k nl od h pc pk q x e = let r = found-before-change (t .workers) n (set-control c k) (λ y. refl) q x e in go (r .0) (r .1) (r .2)
     where
-      go2 : (y : Worker) → find (t .workers) q ≡ some y → ((z : Worker) × (find (s .workers) q ≡ some z) × (y .control ≡ z .control) × (y .frames ≡ z .frames)) ⊎ (PC (y .control) × (y .frames ≡ [])) → PC (y .control) × PK (y .frames)
-      go2 y d (inl i) = same-code y (i .0) (i .2) (i .3) (h q (i .0) (i .1))
-      go2 y d (inr i) = (i .0, subst PK (sym (i .1)) nl)
+      was : (y : Worker) → find (t .workers) q ≡ some y → ((z : Worker) × (find (s .workers) q ≡ some z) × (y .control ≡ z .control) × (y .frames ≡ z .frames)) ⊎ (PC (y .control) × (y .frames ≡ [])) → PC (y .control) × PK (y .frames)
+      was y d (inl i) = same-code y (i .0) (i .2) (i .3) (h q (i .0) (i .1))
+      was y d (inr i) = (i .0, subst PK (sym (i .1)) nl)
       go : (y : Worker) → find (t .workers) q ≡ some y → ((q ≡ n → ⊥) × (x ≡ y)) ⊎ ((q ≡ n) × (x ≡ set-control c k y)) → PC (x .control) × PK (x .frames)
-      go y d (inl i) = subst (λ (z : Worker). PC (z .control) × PK (z .frames)) (sym (i .1)) (go2 y d (od q y d))
+      go y d (inl i) = subst (λ (z : Worker). PC (z .control) × PK (z .frames)) (sym (i .1)) (was y d (od q y d))
       go y d (inr i) = subst (λ (z : Worker). PC (z .control) × PK (z .frames)) (sym (i .1)) (pc, pk)
   -- signals and the clock change no code
   pub signal-every : (s : System) (g : Signal) (w : Worker) → Apart (s .workers) → Every-worker PC PK (s .workers) → Every-worker PC PK (take-signal s g w .workers)

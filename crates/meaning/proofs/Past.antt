@@ -1,5 +1,5 @@
 -- What a move leaves of the other workers: each is gone, or is at work where it was, perhaps with more mail; numbers
--- stay apart, and a new worker waits for no time. One clause per effect of a turn.
+-- stay apart, and a new worker waits for no time.
 use mathlib.Core.Bool.{Bool, true, false, cond}
 use mathlib.Core.List.{List, [], _∷_, _++_, append-assoc, append-nil}
 use mathlib.Core.Logic.{_⊎_, inl, inr}
@@ -49,6 +49,7 @@ gentle-link n w = go (among n (w .links))
     go true = (refl, undisturbed-same w)
     go false = (refl, undisturbed-same w)
 
+-- a move by the worker n, from s to t
 pub record Past (n : ℕ) (s t : System) : Type 0 where
   pub numbered : Numbered t
   pub next : s .next ≤ t .next
@@ -138,10 +139,12 @@ turned-past g s me o i (turn-ends r e) = past-ended (me .pid) s i s me r (past-s
 turned-past g s me o i (turn-swaps c k x m y d f e) = past-own (me .pid) s i (swapped s x m) (set-control c k) (λ z. refl) (swapped-past s (me .pid) i x m)
 turned-past g s me o i (turn-swapped-out x m d f e) = swapped-past s (me .pid) i x m
 turned-past g s me o i turn-stuck = tt
--- whatever a worker does in its turn, at any stage
+
+-- a turn, whatever the worker does in it
 pub after-turn : (g : Program) (s t : System) (n : ℕ) → Numbered s → move g s (turn n) ≡ is t → Past n s t
 after-turn g s t n i h = on-is-of (Past n s) (move g s (turn n)) t (turn-all g s n (OnIs (Past n s)) tt (λ me o p e d v. subst (λ (q : ℕ). OnIs (Past q s) (settle q o)) p (turned-past g s me o i v))) h
--- a signal: for whatever n
+
+-- a signal, for whatever n
 pub after-signal : (g : Program) (s t : System) (n : ℕ) → Numbered s → move g s signal ≡ is t → Past n s t
 after-signal g s t n i h = on-is-of (Past n s) (deliver s (s .signals)) t (deliver-all (Past n s) (Unit {0}) s (s .signals) (λ x gs e. plain gs) (λ x gs w e f. taken (with-signals s gs) x w (plain gs))) h
   where

@@ -1,4 +1,5 @@
--- There is always a next step: the rules leave nobody without one, but where nothing can move.
+-- After finitely many steps without a move there is a move, unless all is quiet or a turn has no meaning: whoever stands
+-- first in the queue can go on, and at the end of a round the clock can, or the next round begins.
 use mathlib.Core.Path.{_≡_, refl, sym, ap, subst, _∙_}
 use mathlib.Core.Logic.{_⊎_, inl, inr}
 use mathlib.Core.Bool.{true, false, _&&_, not}
@@ -53,6 +54,7 @@ quiet-now g s k i e f = ap (λ z. no-signals z && (not (any-can g s (s .workers)
         go (inl d) = impossible (cc)
         go (inr b) = At-none (b .1)
 
+-- whoever can go on has a turn
 turn-allowed : (g : Program) (s : System) (n : ℕ) → Could g s n → move g s (turn n) ≡ not-allowed → ⊥
 turn-allowed g s n (w, f, c) h = inner (turn-of g s w) c (sym (turn-found g s n w f) ∙ h)
   where

@@ -1,4 +1,5 @@
--- Places in the queue, what is kept, and how long it can be.
+-- The queue: places and members, what is kept of it, and what stands before what. It is no longer than there are workers
+-- that can go on, and the end of the round.
 use mathlib.Core.Path.{_≡_, refl, sym, ap, subst, _∙_}
 use mathlib.Core.Logic.{_⊎_, inl, inr}
 use mathlib.Core.Bool.{true, cond}
@@ -31,6 +32,39 @@ At-append fs (there a) = there (At-append fs a)
 pub At-length : {x : Entry} {n : ℕ} {es : List Entry} → At x n es → n < length es
 At-length {es = es} here = omega arith
 At-length (there a) = let h = At-length a in omega arith
+
+-- members
+pub Mem-cases : {x y : Entry} {es : List Entry} → Mem x (y ∷ es) → (x ≡ y) ⊎ Mem x es
+Mem-cases {x} {y} {es} (n, a) = go (At-cases a)
+  where
+    go : (x ≡ y) ⊎ ((k : ℕ) × (n ≡ suc k) × At x k es) → (x ≡ y) ⊎ Mem x es
+    go (inl e) = inl e
+    go (inr b) = inr (b .0, b .2)
+pub Mem-behind : {x : Entry} (y : Entry) {es : List Entry} → Mem x es → Mem x (y ∷ es)
+Mem-behind y m = (suc (m .0), there (m .1))
+pub Mem-left : {x : Entry} {es : List Entry} (fs : List Entry) → Mem x es → Mem x (es ++ fs)
+Mem-left fs (n, a) = (n, At-append fs a)
+pub Mem-right : {x : Entry} (es : List Entry) {fs : List Entry} → Mem x fs → Mem x (es ++ fs)
+Mem-right [] m = m
+Mem-right (y ∷ es) m = Mem-behind y (Mem-right es m)
+pub Mem-split : {x : Entry} (es : List Entry) {fs : List Entry} → Mem x (es ++ fs) → Mem x es ⊎ Mem x fs
+Mem-split [] m = inr m
+Mem-split {x} (y ∷ es) {fs} m = go (Mem-cases m) (Mem-split es)
+  where
+    go : (x ≡ y) ⊎ Mem x (es ++ fs) → (Mem x (es ++ fs) → Mem x es ⊎ Mem x fs) → Mem x (y ∷ es) ⊎ Mem x fs
+    go (inl e) ih = inl (zero, subst (λ z. At x zero (z ∷ es)) e here)
+    go (inr m) ih = other (ih m)
+      where
+        other : Mem x es ⊎ Mem x fs → Mem x (y ∷ es) ⊎ Mem x fs
+        other (inl a) = inl (Mem-behind y a)
+        other (inr b) = inr b
+pub Distinct-append : (es fs : List Entry) → Distinct es → Distinct fs → ((x : Entry) → Mem x es → Mem x fs → ⊥) → Distinct (es ++ fs)
+Distinct-append [] fs d e h = e
+Distinct-append (x ∷ es) fs d e h = (λ m. go (Mem-split es m), Distinct-append es fs (d .1) e (λ y a b. h y (Mem-behind x a) b))
+  where
+    go : Mem x es ⊎ Mem x fs → ⊥
+    go (inl a) = d .0 a
+    go (inr b) = h x (zero, here) b
 -- an entry that stays in the queue: the end of a round, or a worker that is there
 abbrev pub Stays : System → Entry → Type 0
 Stays s round = Unit {0}
@@ -55,6 +89,60 @@ kept {s} x n c (leave {p = p} {es = es} {fs = fs} e r) a = go (At-cases a) (λ k
 pub kept-mem : {s : System} {es fs : List Entry} (x : Entry) → Stays s x → Kept s es fs → Mem x es → Mem x fs
 kept-mem x c k m = let r = kept x (m .0) c k (m .1) in (r .0, r .2)
 
+-- what is kept was there, and stands once if it did
+pub kept-from : {s : System} {es fs : List Entry} → Kept s es fs → (x : Entry) → Mem x fs → Mem x es
+kept-from end x m = m
+kept-from {s} (keep {x = y} {es = es} {fs = fs} k) x m = go (Mem-cases m) (kept-from k x)
+  where
+    go : (x ≡ y) ⊎ Mem x fs → (Mem x fs → Mem x es) → Mem x (y ∷ es)
+    go (inl e) ih = (zero, subst (λ z. At x zero (z ∷ es)) e here)
+    go (inr a) ih = Mem-behind y (ih a)
+kept-from (leave {p = p} e k) x m = Mem-behind (worker p) (kept-from k x m)
+pub kept-distinct : {s : System} {es fs : List Entry} → Kept s es fs → Distinct es → Distinct fs
+kept-distinct end d = d
+kept-distinct (keep {x = x} k) d = (λ m. d .0 (kept-from k x m), kept-distinct k (d .1))
+kept-distinct (leave e k) d = kept-distinct k (d .1)
+
+pub kept-whole : (s : System) (es : List Entry) → Kept s es es
+kept-whole s [] = end
+kept-whole s (x ∷ es) = keep (kept-whole s es)
+
+-- what stands before what
+pub Before-cases : {x y z : Entry} {es : List Entry} → Before x y (z ∷ es) → ((x ≡ z) × Mem y es) ⊎ Before x y es
+Before-cases (first m) = inl (refl, m)
+Before-cases (next b) = inr b
+Before-none : {x y : Entry} → Before x y [] → ⊥
+Before-none a = elim a as (λ es b. is-none es → ⊥) [ first m ↦ λ e. e | next b ↦ λ e. e ] tt
+  where
+    is-none : List Entry → Type 0
+    is-none [] = Unit {0}
+    is-none (x ∷ es) = ⊥
+pub Before-mem : {x y : Entry} {es : List Entry} → Before x y es → Mem y es
+Before-mem {x} (first m) = Mem-behind x m
+Before-mem (next {z = z} b) = Mem-behind z (Before-mem b)
+pub Before-append : {x y : Entry} {es : List Entry} (fs : List Entry) → Before x y es → Before x y (es ++ fs)
+Before-append fs (first m) = first (Mem-left fs m)
+Before-append fs (next b) = next (Before-append fs b)
+pub Before-last : (x y : Entry) (es : List Entry) → Mem x es → Before x y (es ++ (y ∷ []))
+Before-last x y [] m = absurd (At-none (m .1))
+Before-last x y (z ∷ es) m = go (Mem-cases m) (Before-last x y es)
+  where
+    go : (x ≡ z) ⊎ Mem x es → (Mem x es → Before x y (es ++ (y ∷ []))) → Before x y (z ∷ (es ++ (y ∷ [])))
+    go (inl e) ih = subst (λ w. Before x y (w ∷ (es ++ (y ∷ [])))) e (first (Mem-right es (zero, here)))
+    go (inr a) ih = next (ih a)
+pub Before-kept : {s : System} {es fs : List Entry} (q : ℕ) → Kept s es fs → (find (s .workers) q ≡ none → ⊥) → Before (worker q) round es → Before (worker q) round fs
+Before-kept q end h b = absurd (Before-none b)
+Before-kept q (keep {x = x} {es = es} {fs = fs} k) h b = go (Before-cases b) (Before-kept q k h)
+  where
+    go : ((worker q ≡ x) × Mem round es) ⊎ Before (worker q) round es → (Before (worker q) round es → Before (worker q) round fs) → Before (worker q) round (x ∷ fs)
+    go (inl (e, m)) ih = subst (λ w. Before (worker q) round (w ∷ fs)) e (first (kept-mem round tt k m))
+    go (inr a) ih = next (ih a)
+Before-kept {s} q (leave {p = p} {es = es} {fs = fs} d k) h b = go (Before-cases b) (Before-kept q k h)
+  where
+    go : ((worker q ≡ worker p) × Mem round es) ⊎ Before (worker q) round es → (Before (worker q) round es → Before (worker q) round fs) → Before (worker q) round fs
+    go (inl (e, m)) ih = let y : q ≡ p = cc in absurd (h (ap (find (s .workers)) y ∙ d))
+    go (inr a) ih = ih a
+
 -- how many stand in a queue: no more than those that can go on, and the end of the round
 worker-same : {p q : ℕ} → worker p ≡ worker q → p ≡ q
 worker-same e = cc
@@ -71,14 +159,6 @@ record Pulled (n : ℕ) (es : List Entry) : Type 0 where
   len : length es ≡ suc (length rest)
   once : Distinct rest
   from : (y : Entry) → Mem y rest → Mem y es × (y ≡ worker n → ⊥)
-pub Mem-cases : {x y : Entry} {es : List Entry} → Mem x (y ∷ es) → (x ≡ y) ⊎ Mem x es
-Mem-cases {x} {y} {es} (n, a) = go (At-cases a)
-  where
-    go : (x ≡ y) ⊎ ((k : ℕ) × (n ≡ suc k) × At x k es) → (x ≡ y) ⊎ Mem x es
-    go (inl e) = inl e
-    go (inr b) = inr (b .0, b .2)
-pub Mem-behind : {x : Entry} (y : Entry) {es : List Entry} → Mem x es → Mem x (y ∷ es)
-Mem-behind y m = (suc (m .0), there (m .1))
 pull : (n : ℕ) (es : List Entry) → Distinct es → (Mem (worker n) es → ⊥) ⊎ Pulled n es
 pull n [] d = inl (λ m. At-none (m .1))
 pull n (y ∷ es) d = go (worker-or-not n y) (pull n es (d .1))
@@ -120,79 +200,3 @@ module _ (g : Program) (s : System) where
         let y : _≡_ {A = ℕ} (cond {A = ℕ} (can g s w) 1 0) 1 = ap (λ b. cond {A = ℕ} b 1 0) (subst (λ z. can g s z ≡ true) e (h .2)) in
         let n = r .len in
         omega arith
-
--- members of queues
-pub Mem-left : {x : Entry} {es : List Entry} (fs : List Entry) → Mem x es → Mem x (es ++ fs)
-Mem-left fs (n, a) = (n, At-append fs a)
-pub Mem-right : {x : Entry} (es : List Entry) {fs : List Entry} → Mem x fs → Mem x (es ++ fs)
-Mem-right [] m = m
-Mem-right (y ∷ es) m = Mem-behind y (Mem-right es m)
-pub Mem-split : {x : Entry} (es : List Entry) {fs : List Entry} → Mem x (es ++ fs) → Mem x es ⊎ Mem x fs
-Mem-split [] m = inr m
-Mem-split {x} (y ∷ es) {fs} m = go (Mem-cases m) (Mem-split es)
-  where
-    go : (x ≡ y) ⊎ Mem x (es ++ fs) → (Mem x (es ++ fs) → Mem x es ⊎ Mem x fs) → Mem x (y ∷ es) ⊎ Mem x fs
-    go (inl e) ih = inl (zero, subst (λ z. At x zero (z ∷ es)) e here)
-    go (inr m) ih = other (ih m)
-      where
-        other : Mem x es ⊎ Mem x fs → Mem x (y ∷ es) ⊎ Mem x fs
-        other (inl a) = inl (Mem-behind y a)
-        other (inr b) = inr b
-pub Distinct-append : (es fs : List Entry) → Distinct es → Distinct fs → ((x : Entry) → Mem x es → Mem x fs → ⊥) → Distinct (es ++ fs)
-Distinct-append [] fs d e h = e
-Distinct-append (x ∷ es) fs d e h = (λ m. go (Mem-split es m), Distinct-append es fs (d .1) e (λ y a b. h y (Mem-behind x a) b))
-  where
-    go : Mem x es ⊎ Mem x fs → ⊥
-    go (inl a) = d .0 a
-    go (inr b) = h x (zero, here) b
-pub kept-from : {s : System} {es fs : List Entry} → Kept s es fs → (x : Entry) → Mem x fs → Mem x es
-kept-from end x m = m
-kept-from {s} (keep {x = y} {es = es} {fs = fs} k) x m = go (Mem-cases m) (kept-from k x)
-  where
-    go : (x ≡ y) ⊎ Mem x fs → (Mem x fs → Mem x es) → Mem x (y ∷ es)
-    go (inl e) ih = (zero, subst (λ z. At x zero (z ∷ es)) e here)
-    go (inr a) ih = Mem-behind y (ih a)
-kept-from (leave {p = p} e k) x m = Mem-behind (worker p) (kept-from k x m)
-pub kept-distinct : {s : System} {es fs : List Entry} → Kept s es fs → Distinct es → Distinct fs
-kept-distinct end d = d
-kept-distinct (keep {x = x} k) d = (λ m. d .0 (kept-from k x m), kept-distinct k (d .1))
-kept-distinct (leave e k) d = kept-distinct k (d .1)
-
-pub Before-cases : {x y z : Entry} {es : List Entry} → Before x y (z ∷ es) → ((x ≡ z) × Mem y es) ⊎ Before x y es
-Before-cases (first m) = inl (refl, m)
-Before-cases (next b) = inr b
-Before-none : {x y : Entry} → Before x y [] → ⊥
-Before-none a = elim a as (λ es b. is-none es → ⊥) [ first m ↦ λ e. e | next b ↦ λ e. e ] tt
-  where
-    is-none : List Entry → Type 0
-    is-none [] = Unit {0}
-    is-none (x ∷ es) = ⊥
-pub Before-mem : {x y : Entry} {es : List Entry} → Before x y es → Mem y es
-Before-mem {x} (first m) = Mem-behind x m
-Before-mem (next {z = z} b) = Mem-behind z (Before-mem b)
-pub Before-append : {x y : Entry} {es : List Entry} (fs : List Entry) → Before x y es → Before x y (es ++ fs)
-Before-append fs (first m) = first (Mem-left fs m)
-Before-append fs (next b) = next (Before-append fs b)
-pub Before-last : (x y : Entry) (es : List Entry) → Mem x es → Before x y (es ++ (y ∷ []))
-Before-last x y [] m = absurd (At-none (m .1))
-Before-last x y (z ∷ es) m = go (Mem-cases m) (Before-last x y es)
-  where
-    go : (x ≡ z) ⊎ Mem x es → (Mem x es → Before x y (es ++ (y ∷ []))) → Before x y (z ∷ (es ++ (y ∷ [])))
-    go (inl e) ih = subst (λ w. Before x y (w ∷ (es ++ (y ∷ [])))) e (first (Mem-right es (zero, here)))
-    go (inr a) ih = next (ih a)
-pub Before-kept : {s : System} {es fs : List Entry} (q : ℕ) → Kept s es fs → (find (s .workers) q ≡ none → ⊥) → Before (worker q) round es → Before (worker q) round fs
-Before-kept q end h b = absurd (Before-none b)
-Before-kept q (keep {x = x} {es = es} {fs = fs} k) h b = go (Before-cases b) (Before-kept q k h)
-  where
-    go : ((worker q ≡ x) × Mem round es) ⊎ Before (worker q) round es → (Before (worker q) round es → Before (worker q) round fs) → Before (worker q) round (x ∷ fs)
-    go (inl (e, m)) ih = subst (λ w. Before (worker q) round (w ∷ fs)) e (first (kept-mem round tt k m))
-    go (inr a) ih = next (ih a)
-Before-kept {s} q (leave {p = p} {es = es} {fs = fs} d k) h b = go (Before-cases b) (Before-kept q k h)
-  where
-    go : ((worker q ≡ worker p) × Mem round es) ⊎ Before (worker q) round es → (Before (worker q) round es → Before (worker q) round fs) → Before (worker q) round fs
-    go (inl (e, m)) ih = let y : q ≡ p = cc in absurd (h (ap (find (s .workers)) y ∙ d))
-    go (inr a) ih = ih a
-
-pub kept-whole : (s : System) (es : List Entry) → Kept s es es
-kept-whole s [] = end
-kept-whole s (x ∷ es) = keep (kept-whole s es)

@@ -1,4 +1,5 @@
--- Quiet is where no move can be made; who newly can go on; when the clock can.
+-- Quiet is where no move can be made: no signal, nobody that can go on, and no time to wait for. Where nobody's time has
+-- come and somebody waits for one, the clock can go on.
 use mathlib.Core.Path.{_≡_, refl, sym, ap, subst, _∙_}
 use mathlib.Core.Bool.{Bool, true, false, _&&_, _||_, not, cond}
 use mathlib.Core.List.{List, [], _∷_}
@@ -15,9 +16,10 @@ use Rattle.meaning.specs.Promise.{Quiet-means, Clock-goes}
 use Rattle.meaning.proofs.Finding.{find-behind, find-here}
 use Rattle.meaning.proofs.Splits.{T-of, is-true, no-clash, cond-all, opt-all, cond-true, bool-all, some-is, none-some, or-false, and-true, not-true}
 use Rattle.meaning.proofs.Links.{Sound, reached-sound}
-use Rattle.meaning.proofs.NeverStuck.{Good-system, Good-program, reads-good, move-good, reached-good}
+use Rattle.meaning.proofs.NeverStuck.{Good-system, move-good, reached-good}
 use Rattle.meaning.proofs.Results.{OnResult, turn-found}
 use Rattle.meaning.proofs.Times.{first-time-waited, first-time-below, tick-is}
+use Rattle.meaning.proofs.GoodPrograms.{Good-program, reads-good}
 
 pub nobody-can : (g : Program) (s : System) (ws : List Worker) (n : ℕ) (w : Worker) → any-can g s ws ≡ false → find ws n ≡ some w → can g s w ≡ false
 nobody-can g s [] n w h e = absurd (none-some e)

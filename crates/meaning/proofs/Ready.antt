@@ -1,4 +1,5 @@
--- Who can go on depends on the clock, the code at work and the mail alone; and more mail and time take it from nobody.
+-- Whether a worker can go on depends on its control, its mail and the clock alone; more mail and a later clock take it
+-- from nobody.
 use mathlib.Core.Path.{_≡_, refl, sym, _∙_, ap}
 use mathlib.Core.Bool.{Bool, true, false, cond}
 use mathlib.Core.List.{List, [], _∷_, _++_}
@@ -8,14 +9,14 @@ use native.Mathlib.Omega.{arith}
 use lib.Dec.{leb}
 use borrow.Author.Tests.{leb-true, le-leb}
 use Rattle.meaning.specs.Basics.{opt}
-use Rattle.meaning.specs.Syntax.{Program, Clauses, Body}
+use Rattle.meaning.specs.Syntax.{Program, Clauses}
 use Rattle.meaning.specs.Values.{Value, Binding}
 use Rattle.meaning.specs.System.{Scope, Until, for-ever, until, Control, eval, give, enter, fail, wait, Frame, Worker, System, on-worker, set-mail}
 use Rattle.meaning.specs.Turns.{Outcome, goes-on, Chosen, choose, Taken, keep-front, take-first, timed-out, turn-with, can, rebind}
 use Rattle.meaning.specs.Moves.{time-of}
 use Rattle.meaning.specs.Fair.{Could}
 use Rattle.meaning.specs.Scheduler.{Due}
-use Rattle.meaning.proofs.Splits.{impossible}
+use Rattle.meaning.proofs.Splits.{impossible, no-clash}
 
 abbrev pub due : ℕ → Until → Bool
 due t for-ever = false
@@ -55,7 +56,7 @@ pub keep-front-has : (m : Value) (o : Option Taken) → has (keep-front m o) ≡
 keep-front-has m none = refl
 keep-front-has m (some t) = refl
 take-first-more : (cs : Clauses) (bs : List Binding) (ms more : List Value) → has (take-first cs bs ms) ≡ true → has (take-first cs bs (ms ++ more)) ≡ true
-take-first-more cs bs [] more h = let z : false ≡ true = h in let y : _≡_ {A = Bool} (has (take-first cs bs more)) true = cc in y
+take-first-more cs bs [] more h = no-clash h refl
 take-first-more cs bs (m ∷ ms) more h = go (choose cs m bs) (take-first-more cs bs ms more) h
   where
     go : (o : Option Chosen) → (has (take-first cs bs ms) ≡ true → has (take-first cs bs (ms ++ more)) ≡ true) → has (opt o (keep-front m (take-first cs bs ms)) (λ c. some (record { chosen = c; rest = ms }))) ≡ true → has (opt o (keep-front m (take-first cs bs (ms ++ more))) (λ c. some (record { chosen = c; rest = ms ++ more }))) ≡ true
@@ -64,10 +65,10 @@ take-first-more cs bs (m ∷ ms) more h = go (choose cs m bs) (take-first-more c
 due-more : (t t′ : ℕ) (u : Until) → t ≤ t′ → due t u ≡ true → due t′ u ≡ true
 due-more t t′ for-ever le h = h
 due-more t t′ (until v b) le h = let y = leb-true v t h in le-leb v t′ (omega arith)
-has-or-more : {A Body : Type 0} (o : Option A) (p : Option Body) (x y : Bool) → (has o ≡ true → has p ≡ true) → (x ≡ true → y ≡ true) → opt o x (λ z. true) ≡ true → opt p y (λ z. true) ≡ true
+has-or-more : {A B : Type 0} (o : Option A) (p : Option B) (x y : Bool) → (has o ≡ true → has p ≡ true) → (x ≡ true → y ≡ true) → opt o x (λ z. true) ≡ true → opt p y (λ z. true) ≡ true
 has-or-more none none x y f h e = h e
 has-or-more none (some b) x y f h e = refl
-has-or-more (some a) none x y f h e = let z : false ≡ true = f refl in cc
+has-or-more (some a) none x y f h e = no-clash (f refl) refl
 has-or-more (some a) (some b) x y f h e = refl
 pub ready-more : (t t′ : ℕ) (c : Control) (ms more : List Value) → t ≤ t′ → ready t c ms ≡ true → ready t′ c (ms ++ more) ≡ true
 ready-more t t′ (eval e w) ms more le h = refl

@@ -29,7 +29,8 @@ abbrev pub OnIs : (System → Type 0) → Result → Type 0
 OnIs P r = OnResult P (Unit {0}) r
 pub on-is-of : (P : System → Type 0) (r : Result) (s : System) → OnIs P r → r ≡ is s → P s
 on-is-of P r s h e = subst (OnIs P) e h
--- along moves
+
+-- what every move keeps holds after all moves
 pub moves-all : (g : Program) (P : System → Type 0) (N : Type 0) → ((s : System) (m : Move) → P s → OnResult P N (move g s m)) → (l : List Move) (s : System) → P s → OnResult P N (moves g s l)
 moves-all g P N step [] s h = h
 moves-all g P N step (m ∷ l) s h = go (move g s m) (step s m h) (λ t p. moves-all g P N step l t p)
@@ -44,7 +45,7 @@ on-both P Q N (is t) p q = (p, q)
 on-both P Q N not-allowed p q = tt
 on-both P Q N no-meaning p q = q
 
--- the moves of steps
+-- moves after moves
 pub moves-append : (g : Program) (s : System) (l r : List Move) → moves g s (l ++ r) ≡ on-is (moves g s l) (λ t. moves g t r)
 moves-append g s [] r = refl
 moves-append g s (x ∷ l) r = go (move g s x) (λ t. moves-append g t l r)
@@ -53,7 +54,8 @@ moves-append g s (x ∷ l) r = go (move g s x) (λ t. moves-append g t l r)
     go (is t) ih = ih t
     go not-allowed ih = refl
     go no-meaning ih = refl
--- any property of turns, from the view
+
+-- a turn, by its view
 pub turn-all : (g : Program) (s : System) (n : ℕ) (P : Result → Type 0) → P not-allowed → ((me : Worker) (o : Outcome) → me .pid ≡ n → find (s .workers) (me .pid) ≡ some me → turn-of g s me ≡ some o → Turned g s me o → P (settle n o)) → P (move g s (turn n))
 turn-all g s n P no-turn f = opt-all P (find (s .workers) n) not-allowed (λ w. opt (turn-of g s w) not-allowed (settle n)) (λ e. no-turn)
   (λ w e. opt-all P (turn-of g s w) not-allowed (settle n) (λ d. no-turn) (λ o d. let p = find-pid (s .workers) n w e in f w o p (subst (λ (z : ℕ). find (s .workers) z ≡ some w) (sym p) e) d (subst (OnSome (Turned g s w)) d (turn-view g s w))))

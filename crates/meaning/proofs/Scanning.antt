@@ -97,7 +97,8 @@ unfolding could
 true-could g s q (w, f, c) = ap (λ o. opt o false (can g s)) f ∙ c
 pub could-or-not : (g : Program) (s : System) (q : ℕ) → Could g s q ⊎ (Could g s q → ⊥)
 could-or-not g s q = bool-all (λ b. could g s q ≡ b → Could g s q ⊎ (Could g s q → ⊥)) (could g s q) (λ e h. inl (could-true g s q e)) (λ e h. inr (λ c. no-clash (true-could g s q c) e)) refl
--- whoever became able, of all
+
+-- by a move of n: whoever else could not go on, or was not there, and can now
 pub newly-could : Program → ℕ → System → System → Worker → Bool
 newly-could g n s t w = not (could g s (w .pid)) && (can g t w && not (eqb (w .pid) n))
 gains-parts : (a b c : Bool) → (not a && (b && not c)) ≡ true → (a ≡ false) × (b ≡ true) × (c ≡ false)

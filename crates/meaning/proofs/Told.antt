@@ -23,7 +23,7 @@ use Rattle.meaning.proofs.Results.{OnIs, on-is-of, turn-all, deliver-all, take
 use Rattle.meaning.proofs.Swapping.{told-each, swapped-tells, swapped-spares}
 use Rattle.meaning.proofs.Alone.{effect-others}
 
--- D
+-- q is told of the end of p, if p is no more
 abbrev Told-if-gone : System → ℕ → ℕ → Value → System → Type 0
 Told-if-gone s p q y t = find (t .workers) p ≡ none → (gs : List Signal) × Behind s t gs × Told-of q p y gs
 swap-told : (s : System) (x : Name) (m p q : ℕ) (w : Worker) (y : Value) → y ≡ v-atom a-old → Apart (s .workers) → find (s .workers) p ≡ some w → among q (w .links) ≡ true → Told-if-gone s p q y (swapped s x m)
@@ -35,7 +35,8 @@ end-told s me r p q w hs sg fm fp a gn = bool-all (λ b. (gs : List Signal) × (
   (λ h. let i = eqb-is p (me .pid) h in let z : me ≡ w = some-is (sym fm ∙ subst (λ (j : ℕ). find (s .workers) j ≡ some w) i fp) in
     (told (me .pid) r (me .links), ap (λ (y : List Signal). y ++ told (me .pid) r (me .links)) sg, subst (λ (j : ℕ). Told-of q p r (told j r (me .links))) i (told-each p q r (me .links) (ap (λ (y : Worker). among q (y .links)) z ∙ a)), z))
   (λ h. absurd (none-some (sym gn ∙ find-gone-other (s .workers) (me .pid) p (eqb-isnt p (me .pid) h) ∙ fp)))
--- whose turn it was, if it swapped, or another: 'old
+
+-- a swap ends with 'old, whoever's turn it was
 swap-reason : (s : System) (n p : ℕ) (me w : Worker) → me .pid ≡ n → find (s .workers) (me .pid) ≡ some me → find (s .workers) p ≡ some w → end-reason (me .control) (me .frames) ≡ v-atom a-old → reason-of s (turn n) w ≡ v-atom a-old
 swap-reason s n p me w pn fm fp wo = cond-all (λ (y : Value). y ≡ v-atom a-old) (eqb n (w .pid)) (end-reason (w .control) (w .frames)) (v-atom a-old)
   (λ h. let z : me ≡ w = some-is (sym fm ∙ subst (λ (j : ℕ). find (s .workers) j ≡ some w) (sym (find-pid (s .workers) p w fp) ∙ sym (eqb-is n (w .pid) h) ∙ sym pn) fp) in subst (λ (v : Worker). end-reason (v .control) (v .frames) ≡ v-atom a-old) z wo) (λ h. refl)

@@ -1,4 +1,5 @@
--- Of each module at most two versions are at work: the current one and the one before it.
+-- Of each module at most two versions are at work, the current one and the one before it: every scope is in that span.
+-- Calls enter the current version or stay in their own, and a swap ends whatever would fall behind.
 use mathlib.Core.Path.{_≡_, refl, sym, ap, subst, _∙_}
 use mathlib.Core.Logic.{inl}
 use mathlib.Core.Bool.{Bool, true, false, _&&_, _||_, not, cond}
@@ -15,7 +16,7 @@ use Rattle.meaning.specs.Turns.{Outcome, enter-function}
 use Rattle.meaning.specs.Moves.{Move, turn, signal, tick, settle, take-signal, move, first-versions, first-name}
 use Rattle.meaning.specs.Promise.{Reached, Two-versions, ahead-control, ahead-frame, ahead-frames, None-ahead}
 use Rattle.meaning.specs.Effects.{Turned, turn-goes, turn-ends, turn-swaps, turn-swapped-out, turn-stuck}
-use Rattle.meaning.proofs.Splits.{T-of, is-false, no-clash, cond-all, opt-all, cond-false, bool-all, some-is, none-some, same-is, same-refl, OnSome, or-false}
+use Rattle.meaning.proofs.Splits.{T-of, is-false, no-clash, cond-all, opt-all, cond-false, bool-all, some-is, none-some, same-is, same-refl, OnSome, or-false, same-and-false}
 use Rattle.meaning.proofs.Links.{Sound, move-sound, first-sound}
 use Rattle.meaning.proofs.OwnCode.{Every-worker, within-every, settle-every, signal-every, Onward, In-control, In-frame, In-frames, entered-in, turn-onward}
 use Rattle.meaning.proofs.Finding.{gone-within, find-only}
@@ -23,6 +24,7 @@ use Rattle.meaning.proofs.Results.{OnIs, turn-all, tick-all, at-first, reached
 use Rattle.meaning.proofs.Swapping.{current-now-loaded, swapped-loaded, swapped-not-old}
 use Rattle.meaning.proofs.Effects.{effect-bounds}
 
+-- the current version, or the one before it
 abbrev pub Span : List Loaded → Name → ℕ → Type 0
 Span ls h v = (n : ℕ) → current ls h ≡ some n → (n ≤ v + 1) × (v ≤ n)
 abbrev pub Every-in : (Name → ℕ → Type 0) → List Worker → Type 0
@@ -41,7 +43,7 @@ current-other (l ∷ ls) x y m h = bool-all (λ b. same (l .name) x ≡ b → cu
     apart x y h = is-false (same x y) (λ t. no-clash (subst (λ (z : Name). same y z ≡ true) (sym (same-is x y t)) (same-refl y)) h)
 span-after-swap : (ls : List Loaded) (x : Name) (m : ℕ) (h : Name) (v : ℕ) → current ls x ≡ some m → Span ls h v → (same h x && ltb v m) ≡ false → Span (now-loaded ls x (m + 1)) h v
 span-after-swap ls x m h v e sp o n d = bool-all (λ b. same h x ≡ b → (b && ltb v m) ≡ false → (n ≤ v + 1) × (v ≤ n)) (same h x)
-  (λ i j f. let z = same-is h x (T-of i) in let c1 = current-now-loaded ls x (m + 1) m e in let c2 : m + 1 ≡ n = some-is (sym c1 ∙ subst (λ (u : Name). current (now-loaded ls x (m + 1)) u ≡ some n) z d) in let lo : m ≤ v = nltb→le v m (subst (λ (b : Bool). T (not b)) (sym f) tt) in let hi = sp m (subst (λ (u : Name). current ls u ≡ some m) (sym z) e) in (omega arith, omega arith))
+  (λ i j f. let z = same-is h x (T-of i) in let now = current-now-loaded ls x (m + 1) m e in let next : m + 1 ≡ n = some-is (sym now ∙ subst (λ (u : Name). current (now-loaded ls x (m + 1)) u ≡ some n) z d) in let lo : m ≤ v = nltb→le v m (subst (λ (b : Bool). T (not b)) (sym f) tt) in let hi = sp m (subst (λ (u : Name). current ls u ≡ some m) (sym z) e) in (omega arith, omega arith))
   (λ i j f. sp n (sym (current-other ls x h (m + 1) i) ∙ d)) refl o
 module _ (ls : List Loaded) (x : Name) (m : ℕ) (e : current ls x ≡ some m) where
   control-after-swap : (c : Control) → In-control (Span ls) c → old-control x m c ≡ false → In-control (Span (now-loaded ls x (m + 1))) c
@@ -67,14 +69,14 @@ Spans s = Every-in (Span (s .loaded)) (s .workers)
 swapped-spans : (s : System) (x : Name) (m : ℕ) → Apart (s .workers) → current (s .loaded) x ≡ some m → Spans s → Every-in (Span (now-loaded (s .loaded) x (m + 1))) (swapped s x m .workers)
 swapped-spans s x m u e h q y d = let r = swapped-not-old s x m q y u d in worker-after-swap (s .loaded) x m e y (h q y (r .0)) (r .1)
 current-after-swap : (s : System) (x : Name) (m : ℕ) → current (s .loaded) x ≡ some m → (h : Name) (n : ℕ) → current (s .loaded) h ≡ some n → Span (now-loaded (s .loaded) x (m + 1)) h n
-current-after-swap s x m e h n d = span-after-swap (s .loaded) x m h n e (span-now (s .loaded) h n d) (bool-all (λ b. same h x ≡ b → (b && ltb n m) ≡ false) (same h x) (λ i j. let z : n ≡ m = some-is (sym d ∙ subst (λ (u : Name). current (s .loaded) u ≡ some m) (sym (same-is h x (T-of i))) e) in is-false (ltb n m) (λ t. let y = ltb→lt n m t in omega arith)) (λ i j. refl) refl)
+current-after-swap s x m e h n d = span-after-swap (s .loaded) x m h n e (span-now (s .loaded) h n d) (same-and-false h x (ltb n m) (λ i. let z : n ≡ m = some-is (sym d ∙ ap (current (s .loaded)) i ∙ e) in is-false (ltb n m) (λ t. let y = ltb→lt n m t in omega arith)))
 Onward-in-all : Program → System → Worker → Outcome → Type 1
 Onward-in-all g s me o = (Q : Name → ℕ → Type 0) → ((m : Name) (n : ℕ) → current (s .loaded) m ≡ some n → Q m n) → In-control Q (me .control) → In-frames Q (me .frames) → Onward (In-control Q) (In-frames Q) (Unit {0}) s o
 turned-spans : (g : Program) (s : System) (n : ℕ) (me : Worker) (o : Outcome) → Apart (s .workers) → find (s .workers) (me .pid) ≡ some me → Turned g s me o → Onward-in-all g s me o → Spans s → OnIs Spans (settle n o)
 unfolding Onward-in-all
 turned-spans g s n me o u e (turn-goes c k w {t} d) go h = let mine = h (me .pid) me e in let r = go (Span (s .loaded)) (span-now (s .loaded)) (mine .0) (mine .1) in subst (λ (ls : List Loaded). Every-in (Span ls) (change (t .workers) n (set-control c k))) (sym (effect-bounds g s w (me .pid) t d .0)) (settle-every (In-control (Span (s .loaded))) (In-frames (Span (s .loaded))) s t n c k tt (r .2) h (r .0) (r .1))
 turned-spans g s n me o u e (turn-ends r why) go h = within-every (In-control (Span (s .loaded))) (In-frames (Span (s .loaded))) (gone (s .workers) (me .pid)) (s .workers) (gone-within (s .workers) (me .pid) u) h
-turned-spans g s n me o u e (turn-swaps c k x m y d f wo) go h = let Q = Span (now-loaded (s .loaded) x (m + 1)) in let mine = swapped-not-old s x m (me .pid) y u f in let same-me : y ≡ me = some-is (sym (mine .0) ∙ e) in let mine2 = worker-after-swap (s .loaded) x m d me (h (me .pid) me e) (ap (old x m) (sym same-me) ∙ mine .1) in let r = go Q (current-after-swap s x m d) (mine2 .0) (mine2 .1) in
+turned-spans g s n me o u e (turn-swaps c k x m y d f wo) go h = let Q = Span (now-loaded (s .loaded) x (m + 1)) in let mine = swapped-not-old s x m (me .pid) y u f in let same-me : y ≡ me = some-is (sym (mine .0) ∙ e) in let still-mine = worker-after-swap (s .loaded) x m d me (h (me .pid) me e) (ap (old x m) (sym same-me) ∙ mine .1) in let r = go Q (current-after-swap s x m d) (still-mine .0) (still-mine .1) in
   subst (λ (ls : List Loaded). Every-in (Span ls) (change (swapped s x m .workers) n (set-control c k))) (sym (swapped-loaded s x m)) (settle-every (In-control Q) (In-frames Q) (swapped s x m) (swapped s x m) n c k tt (λ q z i. inl (z, i, refl, refl)) (swapped-spans s x m u d h) (r .0) (r .1))
 turned-spans g s n me o u e (turn-swapped-out x m d f wo) go h = subst (λ (ls : List Loaded). Every-in (Span ls) (swapped s x m .workers)) (sym (swapped-loaded s x m)) (swapped-spans s x m u d h)
 turned-spans g s n me o u e turn-stuck go h = tt
@@ -83,6 +85,7 @@ unfolding Onward-in-all
 move-spans g s (turn n) u h = turn-all g s n (OnIs Spans) tt (λ me o p e d v. turned-spans g s n me o u e v (λ Q now pc pk. subst (OnSome (Onward (In-control Q) (In-frames Q) (Unit {0}) s)) d (turn-onward g s Q now u me pc pk)) h)
 move-spans g s signal u h = deliver-all Spans (Unit {0}) s (s .signals) (λ x gs i. h) (λ x gs w i e. subst (λ (ls : List Loaded). Every-in (Span ls) (take-signal (with-signals s gs) x w .workers)) (sym (take-signal-all (λ t. t .loaded ≡ s .loaded) (with-signals s gs) x w refl refl refl)) (signal-every (In-control (Span (s .loaded))) (In-frames (Span (s .loaded))) (with-signals s gs) x w u h))
 move-spans g s tick u h = tick-all Spans (Unit {0}) s (λ t l. h)
+
 -- at first every module is in version 1
 abbrev Ones : List Loaded → Type 0
 Ones [] = Unit {0}
@@ -102,9 +105,11 @@ first-spans g c e q x d = subst (λ (z : Worker). In-control (Span (first-versio
 pub reached-spans : (g : Program) (l : List Move) (s : System) → Reached g l s → Spans s
 reached-spans g l s r = reached-all g (λ t. Sound t × Spans t) (λ c e. (first-sound g c, first-spans g c e)) (λ t m h. on-both Sound Spans (Unit {0}) (move g t m) (move-sound g t m (h .0)) (move-spans g t m (h .0 .apart) (h .1))) l s r .1
 
--- E
+-- nothing in the span is older than the version before the current one, or ahead of the current one
 not-old : (ls : List Loaded) (x : Name) (n : ℕ) (h : Name) (v : ℕ) → current ls x ≡ some n → Span ls h v → (same h x && ltb v (n - 1)) ≡ false
-not-old ls x n h v e sp = bool-all (λ b. same h x ≡ b → (b && ltb v (n - 1)) ≡ false) (same h x) (λ i j. let z = sp n (subst (λ (u : Name). current ls u ≡ some n) (sym (same-is h x (T-of i))) e) in is-false (ltb v (n - 1)) (λ t. let y = ltb→lt v (n - 1) t in omega arith)) (λ i j. refl) refl
+not-old ls x n h v e sp = same-and-false h x (ltb v (n - 1)) (λ i. let z = sp n (ap (current ls) i ∙ e) in is-false (ltb v (n - 1)) (λ t. let y = ltb→lt v (n - 1) t in omega arith))
+not-ahead : (ls : List Loaded) (x : Name) (n : ℕ) (h : Name) (v : ℕ) → current ls x ≡ some n → Span ls h v → (same h x && ltb n v) ≡ false
+not-ahead ls x n h v e sp = same-and-false h x (ltb n v) (λ i. let z = sp n (ap (current ls) i ∙ e) in is-false (ltb n v) (λ t. let y = ltb→lt n v t in omega arith))
 module _ (ls : List Loaded) (x : Name) (n : ℕ) (e : current ls x ≡ some n) where
   control-not-old : (c : Control) → In-control (Span ls) c → old-control x (n - 1) c ≡ false
   control-not-old (eval a w) h = not-old ls x n (w .home) (w .version) e h
@@ -123,9 +128,6 @@ module _ (ls : List Loaded) (x : Name) (n : ℕ) (e : current ls x ≡ some n) w
   frames-not-old (f ∷ k) h = ap (λ (b : Bool). b || old-frames x (n - 1) k) (frame-not-old f (h .0)) ∙ frames-not-old k (h .1)
 pub two-versions : Two-versions
 two-versions g l s x n p w r e f = let h = reached-spans g l s r p w f in ap (λ (b : Bool). b || old-frames x (n - 1) (w .frames)) (control-not-old (s .loaded) x n e (w .control) (h .0)) ∙ frames-not-old (s .loaded) x n e (w .frames) (h .1)
-
-not-ahead : (ls : List Loaded) (x : Name) (n : ℕ) (h : Name) (v : ℕ) → current ls x ≡ some n → Span ls h v → (same h x && ltb n v) ≡ false
-not-ahead ls x n h v e sp = bool-all (λ b. same h x ≡ b → (b && ltb n v) ≡ false) (same h x) (λ i j. let z = sp n (subst (λ (u : Name). current ls u ≡ some n) (sym (same-is h x (T-of i))) e) in is-false (ltb n v) (λ t. let y = ltb→lt n v t in omega arith)) (λ i j. refl) refl
 module _ (ls : List Loaded) (x : Name) (n : ℕ) (e : current ls x ≡ some n) where
   control-not-ahead : (c : Control) → In-control (Span ls) c → ahead-control x n c ≡ false
   control-not-ahead (eval a w) h = not-ahead ls x n (w .home) (w .version) e h

@@ -1,4 +1,5 @@
--- Who becomes able by what a turn does: by a message, by a beginning, by time; and how it is seen.
+-- Who becomes able by what a turn does: whoever gets a message that it waits for, and whoever begins, nobody else; and
+-- whom a turn ends. These laws are for those who implement the scheduler.
 use mathlib.Core.Path.{_≡_, refl, sym, ap, subst, _∙_}
 use mathlib.Core.Logic.{_⊎_, inl, inr}
 use mathlib.Core.Bool.{Bool, true, false}
@@ -14,9 +15,9 @@ use Rattle.meaning.specs.Turns.{can, take-first, Taken, Chosen, choose, keep-f
 use Rattle.meaning.specs.Fair.{Could}
 use Rattle.meaning.specs.Scheduler.{Woken, alive, Numbered, Good, next, Entry, worker, serve, here, Mem}
 use Rattle.meaning.proofs.Queue.{Mem-behind, could-not-gone, At-none, Mem-cases}
-use Rattle.meaning.proofs.Finding.{find-here, find-there, Keeps-number, find-change-other, find-changed, find-append-some, find-append-none, find-gone-other}
+use Rattle.meaning.proofs.Finding.{find-here, find-there, Keeps-number, find-change-other, find-changed, find-append-some, find-append-none, find-gone-other, change-ends-nobody}
 use Rattle.meaning.proofs.Ready.{can-is, ready, due, has, keep-front-has, can-same}
-use Rattle.meaning.proofs.Splits.{equal-or-not, some-or-none, impossible}
+use Rattle.meaning.proofs.Splits.{equal-or-not, some-or-none, impossible, none-some, no-clash}
 use Rattle.meaning.proofs.Alive.{alive-same}
 
 -- who became able: nobody else, or one
@@ -76,11 +77,11 @@ module _ (g : Program) (n : ℕ) (s : System) (i : Numbered s) (c : Control) (f 
       others : (q : ℕ) → (q ≡ s .next → ⊥) → (find (s .workers) q ≡ none) ⊎ ((w : Worker) × (find (s .workers) q ≡ some w)) → find (s .workers ++ (new-worker ∷ [])) q ≡ find (s .workers) q
       others q b (inl e) = find-append-none (s .workers) (new-worker ∷ []) q e ∙ find-there new-worker [] q (λ d. b (sym d)) ∙ sym e
       others q b (inr (w, e)) = find-append-some (s .workers) (new-worker ∷ []) q w e ∙ sym e
-
--- who waited in vain: a new message is seen by itself, and time by itself
+-- who waits in vain has no message to take, and its time has not come: then a new message is seen by itself, and so is
+-- time
 has-not : {A : Type 0} (o : Option A) → has o ≡ false → o ≡ none
 has-not none h = refl
-has-not (some x) h = let z : true ≡ false = h in cc
+has-not (some x) h = no-clash refl h
 take-first-last : (cs : Clauses) (bs : List Binding) (ms : List Value) (v : Value) → has (take-first cs bs ms) ≡ false → has (take-first cs bs (ms ++ (v ∷ []))) ≡ has (choose cs v bs)
 take-first-last cs bs [] v h = go (choose cs v bs)
   where
@@ -91,11 +92,10 @@ take-first-last cs bs (m ∷ ms) v h = go (choose cs m bs) (take-first-last cs b
   where
     go : (o : Option Chosen) → (has (take-first cs bs ms) ≡ false → has (take-first cs bs (ms ++ (v ∷ []))) ≡ has (choose cs v bs)) → has (opt o (keep-front m (take-first cs bs ms)) (λ c. some (record { chosen = c; rest = ms }))) ≡ false → has (opt o (keep-front m (take-first cs bs (ms ++ (v ∷ [])))) (λ c. some (record { chosen = c; rest = ms ++ (v ∷ []) }))) ≡ has (choose cs v bs)
     go none ih h = keep-front-has m (take-first cs bs (ms ++ (v ∷ []))) ∙ ih (sym (keep-front-has m (take-first cs bs ms)) ∙ h)
-    go (some c) ih h = let z : true ≡ false = h in cc
--- 'ready' of one that waits
+    go (some c) ih h = no-clash refl h
 waits-in-vain : {A : Type 0} (o : Option A) (b : Bool) → opt o b (λ x. true) ≡ false → (has o ≡ false) × (b ≡ false)
 waits-in-vain none b h = (refl, h)
-waits-in-vain (some x) b h = let z : true ≡ false = h in (cc, cc)
+waits-in-vain (some x) b h = no-clash refl h
 pub mail-wakes : (t : ℕ) (cs : Clauses) (u : Until) (w : Scope) (ms : List Value) (v : Value) → ready t (wait cs u w) ms ≡ false → ready t (wait cs u w) (ms ++ (v ∷ [])) ≡ has (choose cs v (w .vars))
 mail-wakes t cs u w ms v h = go (take-first cs (w .vars) (ms ++ (v ∷ []))) (waits-in-vain (take-first cs (w .vars) ms) (due t u) h .1) ∙ take-first-last cs (w .vars) ms v (waits-in-vain (take-first cs (w .vars) ms) (due t u) h .0)
   where
@@ -106,22 +106,14 @@ pub time-wakes : (t t′ : ℕ) (cs : Clauses) (u : Until) (w : Scope) (ms : Lis
 time-wakes t t′ cs u w ms h = ap (λ o. opt o (due t′ u) (λ x. true)) (has-not (take-first cs (w .vars) ms) (waits-in-vain (take-first cs (w .vars) ms) (due t u) h .0))
 abbrev pub Spares : ℕ → System → System → Type 0
 Spares n s t = (q : ℕ) (w : Worker) → (q ≡ n → ⊥) → find (s .workers) q ≡ some w → find (t .workers) q ≡ none → ⊥
-clash : {A : Type 0} {a : A} {o : Option A} → o ≡ some a → o ≡ none → ⊥
-clash p q = impossible (cc)
 pub spares-own : (n : ℕ) (s : System) (f : Worker → Worker) → Keeps-number f → Spares n s (on-worker s n f)
-spares-own n s f k q w d h e = clash h (sym (find-change-other (s .workers) n q f k d) ∙ e)
+spares-own n s f k q w d h e = none-some (sym e ∙ find-change-other (s .workers) n q f k d ∙ h)
 pub spares-end : (s : System) (me : Worker) (r : Value) → Spares (me .pid) s (ended s me r)
-spares-end s me r q w d h e = clash h (sym (find-gone-other (s .workers) (me .pid) q d) ∙ e)
-pub spares-begun : (n : ℕ) (s : System) (c : Control) (f : Worker → Worker) → Keeps-number f → Spares n s (on-worker (with-new s c) n f)
-spares-begun n s c f k q w d h e = clash (find-append-some (s .workers) (record { pid = s .next; control = c; frames = []; mail = []; links = []; traps = false } ∷ []) q w h) (sym (find-change-other (s .workers ++ (record { pid = s .next; control = c; frames = []; mail = []; links = []; traps = false } ∷ [])) n q f k d) ∙ e)
+spares-end s me r q w d h e = none-some (sym e ∙ find-gone-other (s .workers) (me .pid) q d ∙ h)
+pub spares-new : (n : ℕ) (s : System) (c : Control) (f : Worker → Worker) → Keeps-number f → Spares n s (on-worker (with-new s c) n f)
+spares-new n s c f k q w d h e = none-some (sym e ∙ find-change-other (with-new s c .workers) n q f k d ∙ find-append-some (s .workers) _ q w h)
 pub spares-sent : (n : ℕ) (s : System) (p : ℕ) (v : Value) (f : Worker → Worker) → Keeps-number f → Spares n s (sent-and-changed s n p v f)
-spares-sent n s p v f k q w d h e = go (equal-or-not q p)
-  where
-    here-it : find (change (s .workers) p (add-mail v)) q ≡ none
-    here-it = sym (find-change-other (change (s .workers) p (add-mail v)) n q f k d) ∙ e
-    go : (q ≡ p) ⊎ (q ≡ p → ⊥) → ⊥
-    go (inl a) = clash (find-changed (s .workers) q (add-mail v) w (λ x. refl) h) (subst (λ z. find (change (s .workers) z (add-mail v)) q ≡ none) (sym a) here-it)
-    go (inr a) = clash h (sym (find-change-other (s .workers) p q (add-mail v) (λ x. refl) a) ∙ here-it)
+spares-sent n s p v f k q w d h e = change-ends-nobody (s .workers) p (add-mail v) (λ x. refl) q w h (sym (find-change-other (change (s .workers) p (add-mail v)) n q f k d) ∙ e)
 pub queue-same : (g : Program) (s t : System) (n k : ℕ) (es : List Entry) → Good g s (serve n k) es → Spares n s t → alive t es ≡ es
 queue-same g s t n k es i sp = alive-same t es (λ q m e. let c = i .exact .able q (Mem-behind (worker n) m) in sp q (c .0) (λ d. i .exact .once .0 (subst (λ z. Mem (worker z) es) d m)) (c .1) e)
 
