@@ -20,12 +20,14 @@ alive-kept s [] = end
 alive-kept s (round ∷ es) = keep (alive-kept s es)
 alive-kept s (worker p ∷ es) = go (find (s .workers) p) refl (alive-kept s es)
   where
-    go : (o : Option Worker) → find (s .workers) p ≡ o → Kept s es (alive s es) → Kept s (worker p ∷ es) (opt o (alive s es) (λ w. worker p ∷ alive s es))
+    go : (o : Option Worker) → find (s .workers) p ≡ o → Kept s es (alive s es) →
+        Kept s (worker p ∷ es) (opt o (alive s es) (λ w. worker p ∷ alive s es))
     go none e ih = leave e ih
     go (some w) e ih = keep ih
 
 -- whoever is left is there
-pub alive-there : (t : System) (es : List Entry) (q : ℕ) → Mem (worker q) (alive t es) → find (t .workers) q ≡ none → ⊥
+pub alive-there : (t : System) (es : List Entry) (q : ℕ) → Mem (worker q) (alive t es) → find (t .workers) q ≡ none →
+    ⊥
 alive-there t [] q m e = At-none (m .1)
 alive-there t (round ∷ es) q m e = go (Mem-cases m) (λ a. alive-there t es q a e)
   where
@@ -34,7 +36,8 @@ alive-there t (round ∷ es) q m e = go (Mem-cases m) (λ a. alive-there t es q 
     go (inr a) ih = ih a
 alive-there t (worker p ∷ es) q m e = go (find (t .workers) p) refl m (λ a. alive-there t es q a e)
   where
-    go : (o : Option Worker) → find (t .workers) p ≡ o → Mem (worker q) (opt o (alive t es) (λ w. worker p ∷ alive t es)) → (Mem (worker q) (alive t es) → ⊥) → ⊥
+    go : (o : Option Worker) → find (t .workers) p ≡ o →
+        Mem (worker q) (opt o (alive t es) (λ w. worker p ∷ alive t es)) → (Mem (worker q) (alive t es) → ⊥) → ⊥
     go none d a ih = ih a
     go (some w) d a ih = side (Mem-cases a)
       where
@@ -43,22 +46,29 @@ alive-there t (worker p ∷ es) q m e = go (find (t .workers) p) refl m (λ a. a
         side (inr b) = ih b
 
 -- nobody in the queue ends: the queue stays as it is
-pub alive-same : (t : System) (es : List Entry) → ((q : ℕ) → Mem (worker q) es → find (t .workers) q ≡ none → ⊥) → alive t es ≡ es
+pub alive-same : (t : System) (es : List Entry) → ((q : ℕ) → Mem (worker q) es → find (t .workers) q ≡ none → ⊥) →
+    alive t es ≡ es
 alive-same t [] h = refl
 alive-same t (round ∷ es) h = ap (λ z. round ∷ z) (alive-same t es (λ q m. h q (Mem-behind round m)))
-alive-same t (worker p ∷ es) h = go (find (t .workers) p) refl (alive-same t es (λ q m. h q (Mem-behind (worker p) m)))
+alive-same t (worker p ∷ es) h =
+    go (find (t .workers) p) refl (alive-same t es (λ q m. h q (Mem-behind (worker p) m)))
   where
-    go : (o : Option Worker) → find (t .workers) p ≡ o → alive t es ≡ es → opt o (alive t es) (λ w. worker p ∷ alive t es) ≡ worker p ∷ es
+    go : (o : Option Worker) → find (t .workers) p ≡ o → alive t es ≡ es → opt o (alive t es)
+        (λ w. worker p ∷ alive t es) ≡ worker p ∷ es
     go none e ih = absurd (h p (zero, here) e)
     go (some w) e ih = ap (λ z. worker p ∷ z) ih
-pub alive-able : (g : Program) (t : System) (es : List Entry) → ((q : ℕ) → Mem (worker q) es → Could g t q) → alive t es ≡ es
+
+pub alive-able : (g : Program) (t : System) (es : List Entry) → ((q : ℕ) → Mem (worker q) es → Could g t q) →
+    alive t es ≡ es
 alive-able g t es h = alive-same t es (λ q m e. could-not-gone g t q e (h q m))
+
 pub alive-append : (t : System) (r new : List Entry) → alive t (r ++ new) ≡ alive t r ++ alive t new
 alive-append t [] new = refl
 alive-append t (round ∷ r) new = ap (λ z. round ∷ z) (alive-append t r new)
 alive-append t (worker q ∷ r) new = go (find (t .workers) q) (alive-append t r new)
   where
-    go : (o : Option Worker) → alive t (r ++ new) ≡ alive t r ++ alive t new → opt o (alive t (r ++ new)) (λ w. worker q ∷ alive t (r ++ new)) ≡ opt o (alive t r) (λ w. worker q ∷ alive t r) ++ alive t new
+    go : (o : Option Worker) → alive t (r ++ new) ≡ alive t r ++ alive t new → opt o (alive t (r ++ new))
+        (λ w. worker q ∷ alive t (r ++ new)) ≡ opt o (alive t r) (λ w. worker q ∷ alive t r) ++ alive t new
     go none ih = ih
     go (some w) ih = ap (λ z. worker q ∷ z) ih
 
@@ -67,11 +77,15 @@ abbrev pub Numbers-below : ℕ → List Entry → Type 0
 Numbers-below n [] = Unit {0}
 Numbers-below n (round ∷ es) = Numbers-below n es
 Numbers-below n (worker p ∷ es) = (p < n) × Numbers-below n es
-pub alive-later : (n : ℕ) (s t : System) → Past n s t → (r : List Entry) → Numbers-below (s .next) r → alive t (alive s r) ≡ alive t r
+
+pub alive-later : (n : ℕ) (s t : System) → Past n s t → (r : List Entry) → Numbers-below (s .next) r →
+    alive t (alive s r) ≡ alive t r
 alive-later n s t p [] l = refl
 alive-later n s t p (round ∷ r) l = ap (λ z. round ∷ z) (alive-later n s t p r l)
 alive-later n s t p (worker q ∷ r) l = go (find (s .workers) q) refl (alive-later n s t p r (l .1))
   where
-    go : (o : Option Worker) → find (s .workers) q ≡ o → alive t (alive s r) ≡ alive t r → alive t (opt o (alive s r) (λ w. worker q ∷ alive s r)) ≡ opt (find (t .workers) q) (alive t r) (λ w. worker q ∷ alive t r)
+    go : (o : Option Worker) → find (s .workers) q ≡ o → alive t (alive s r) ≡ alive t r →
+        alive t (opt o (alive s r) (λ w. worker q ∷ alive s r)) ≡ opt (find (t .workers) q) (alive t r)
+        (λ w. worker q ∷ alive t r)
     go none e ih = ih ∙ sym (ap (λ o. opt o (alive t r) (λ w. worker q ∷ alive t r)) (p .ends q (l .0) e))
     go (some x) e ih = ap (λ z. opt (find (t .workers) q) z (λ w. worker q ∷ z)) ih

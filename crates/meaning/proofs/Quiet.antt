@@ -9,70 +9,133 @@ use native.Mathlib.Omega.{arith}
 use lib.Dec.{eqb, ltb, leb, T, leb→le, ltb→lt, lt→ltb, nleb→lt}
 use Rattle.meaning.specs.Basics.{opt}
 use Rattle.meaning.specs.Syntax.{Program}
-use Rattle.meaning.specs.System.{Worker, Signal, System, with-signals, find, on-worker, set-control, with-clock, Apart}
+use Rattle.meaning.specs.System.{Worker, Signal, System, with-signals, find, on-worker, set-control, with-clock}
+use Rattle.meaning.specs.System.{Apart}
 use Rattle.meaning.specs.Turns.{Outcome, goes-on, leaves, stuck, turn-of, can}
-use Rattle.meaning.specs.Moves.{Move, turn, signal, tick, Result, is, not-allowed, settle, take-signal, deliver, any-can, first-time, move, no-signals, quiet}
+use Rattle.meaning.specs.Moves.{Move, turn, signal, tick, Result, is, not-allowed, settle, take-signal, deliver}
+use Rattle.meaning.specs.Moves.{any-can, first-time, move, no-signals, quiet}
 use Rattle.meaning.specs.Promise.{Quiet-means, Clock-goes}
 use Rattle.meaning.proofs.Finding.{find-behind, find-here}
-use Rattle.meaning.proofs.Splits.{T-of, is-true, no-clash, cond-all, opt-all, cond-true, bool-all, some-is, none-some, or-false, and-true, not-true}
+use Rattle.meaning.proofs.Splits.{T-of, is-true, no-clash, cond-all, opt-all, cond-true, bool-all, some-is, none-some}
+use Rattle.meaning.proofs.Splits.{or-false, and-true, not-true}
 use Rattle.meaning.proofs.Links.{Sound, reached-sound}
 use Rattle.meaning.proofs.NeverStuck.{Good-system, move-good, reached-good}
 use Rattle.meaning.proofs.Results.{OnResult, turn-found}
 use Rattle.meaning.proofs.Times.{first-time-waited, first-time-below, tick-is}
 use Rattle.meaning.proofs.GoodPrograms.{Good-program, reads-good}
 
-pub nobody-can : (g : Program) (s : System) (ws : List Worker) (n : ℕ) (w : Worker) → any-can g s ws ≡ false → find ws n ≡ some w → can g s w ≡ false
+pub nobody-can : (g : Program) (s : System) (ws : List Worker) (n : ℕ) (w : Worker) → any-can g s ws ≡ false →
+    find ws n ≡ some w → can g s w ≡ false
 nobody-can g s [] n w h e = absurd (none-some e)
-nobody-can g s (v ∷ ws) n w h e = let z = or-false (can g s v) (any-can g s ws) h in cond-all (λ o. o ≡ some w → can g s w ≡ false) (eqb (v .pid) n) (some v) (find ws n) (λ i d. ap (can g s) (sym (some-is d)) ∙ z .0) (λ i d. nobody-can g s ws n w (z .1) d) e
-pub somebody-can : (g : Program) (s : System) (ws : List Worker) → Apart ws → any-can g s ws ≡ true → (n : ℕ) × (w : Worker) × (find ws n ≡ some w) × (can g s w ≡ true)
+nobody-can g s (v ∷ ws) n w h e =
+    let z = or-false (can g s v) (any-can g s ws) h in
+    cond-all (λ o. o ≡ some w → can g s w ≡ false) (eqb (v .pid) n) (some v) (find ws n)
+    (λ i d. ap (can g s) (sym (some-is d)) ∙ z .0) (λ i d. nobody-can g s ws n w (z .1) d) e
+
+pub somebody-can : (g : Program) (s : System) (ws : List Worker) → Apart ws → any-can g s ws ≡ true →
+    (n : ℕ) × (w : Worker) × (find ws n ≡ some w) × (can g s w ≡ true)
 somebody-can g s [] u h = no-clash h refl
-somebody-can g s (v ∷ ws) u h = bool-all (λ b. can g s v ≡ b → (b || any-can g s ws) ≡ true → (n : ℕ) × (w : Worker) × (find (v ∷ ws) n ≡ some w) × (can g s w ≡ true)) (can g s v)
-  (λ e i d. (v .pid, v, find-here v ws (v .pid) refl, e)) (λ e i d. let r = somebody-can g s ws (u .1) d in (r .0, r .1, find-behind v ws (r .0) (r .1) u (r .2), r .3)) refl h
-pub turn-settles : (g : Program) (s : System) (n : ℕ) (w : Worker) (o : Outcome) → find (s .workers) n ≡ some w → turn-of g s w ≡ some o → move g s (turn n) ≡ settle n o
+somebody-can g s (v ∷ ws) u h =
+    bool-all (λ b. can g s v ≡ b → (b || any-can g s ws) ≡ true → (n : ℕ) × (w : Worker) × (find (v ∷ ws) n ≡ some w)
+    × (can g s w ≡ true)) (can g s v)
+    (λ e i d. (v .pid, v, find-here v ws (v .pid) refl, e))
+    (λ e i d. let r = somebody-can g s ws (u .1) d in (r .0, r .1, find-behind v ws (r .0) (r .1) u (r .2), r .3))
+    refl h
+
+pub turn-settles : (g : Program) (s : System) (n : ℕ) (w : Worker) (o : Outcome) → find (s .workers) n ≡ some w →
+    turn-of g s w ≡ some o → move g s (turn n) ≡ settle n o
 turn-settles g s n w o e d = turn-found g s n w e ∙ ap (λ (y : Option Outcome). opt y not-allowed (settle n)) d
+
 can-outcome : (o : Option Outcome) → opt o false (λ x. true) ≡ true → (x : Outcome) × (o ≡ some x)
 can-outcome none h = no-clash h refl
 can-outcome (some x) h = (x, refl)
+
 not-allowed-is : {A : Type 0} {u : System} → not-allowed ≡ is u → A
 not-allowed-is {A} {u} e = absurd (subst (λ (r : Result). OnResult (λ t. ⊥) (Unit {0}) r) e tt)
+
 quiet-no-move : (g : Program) (s : System) → quiet g s ≡ true → (m : Move) (u : System) → move g s m ≡ is u → ⊥
 quiet-no-move g s h m u e = go m e
   where
-    a : (no-signals (s .signals) ≡ true) × ((not (any-can g s (s .workers)) && opt (first-time (s .workers)) true (λ t. leb t (s .clock))) ≡ true)
-    a = and-true (no-signals (s .signals)) (not (any-can g s (s .workers)) && opt (first-time (s .workers)) true (λ t. leb t (s .clock))) h
+    a : (no-signals (s .signals) ≡ true)
+        × ((not (any-can g s (s .workers)) && opt (first-time (s .workers)) true (λ t. leb t (s .clock))) ≡ true)
+    a = and-true (no-signals (s .signals)) (not (any-can g s (s .workers)) && opt (first-time (s .workers)) true
+        (λ t. leb t (s .clock))) h
+
     b : (not (any-can g s (s .workers)) ≡ true) × (opt (first-time (s .workers)) true (λ t. leb t (s .clock)) ≡ true)
     b = and-true (not (any-can g s (s .workers))) (opt (first-time (s .workers)) true (λ t. leb t (s .clock))) (a .1)
+
     ds : (gs : List Signal) → no-signals gs ≡ true → deliver s gs ≡ is u → ⊥
     ds [] i d = not-allowed-is d
     ds (x ∷ gs) i d = no-clash i refl
-    tk : (o : Option ℕ) → opt o true (λ t. leb t (s .clock)) ≡ true → opt o not-allowed (λ t. cond (ltb (s .clock) t) (is (with-clock s t)) not-allowed) ≡ is u → ⊥
+
+    tk : (o : Option ℕ) → opt o true (λ t. leb t (s .clock)) ≡ true → opt o not-allowed
+        (λ t. cond (ltb (s .clock) t) (is (with-clock s t)) not-allowed) ≡ is u → ⊥
     tk none i d = not-allowed-is d
-    tk (some t) i d = cond-all (λ r. r ≡ is u → ⊥) (ltb (s .clock) t) (is (with-clock s t)) not-allowed (λ j c. let y = leb→le t (s .clock) (T-of i) in let z = ltb→lt (s .clock) t (T-of j) in omega arith) (λ j c. not-allowed-is c) d
+    tk (some t) i d = cond-all (λ r. r ≡ is u → ⊥) (ltb (s .clock) t) (is (with-clock s t)) not-allowed
+        (λ j c. let y = leb→le t (s .clock) (T-of i) in
+        let z = ltb→lt (s .clock) t (T-of j) in omega arith) (λ j c. not-allowed-is c) d
+
     go : (m : Move) → move g s m ≡ is u → ⊥
-    go (turn n) d = opt-all (λ r. r ≡ is u → ⊥) (find (s .workers) n) not-allowed (λ w. opt (turn-of g s w) not-allowed (settle n)) (λ i c. not-allowed-is c)
-      (λ w i. opt-all (λ r. r ≡ is u → ⊥) (turn-of g s w) not-allowed (settle n) (λ j c. not-allowed-is c) (λ o j c. no-clash (ap (λ (y : Option Outcome). opt y false (λ z. true)) j) (nobody-can g s (s .workers) n w (not-true (any-can g s (s .workers)) (b .0)) i))) d
+    go (turn n) d = opt-all (λ r. r ≡ is u → ⊥) (find (s .workers) n) not-allowed
+        (λ w. opt (turn-of g s w) not-allowed (settle n)) (λ i c. not-allowed-is c)
+        (λ w i. opt-all (λ r. r ≡ is u → ⊥) (turn-of g s w) not-allowed (settle n) (λ j c. not-allowed-is c)
+        (λ o j c. no-clash (ap (λ (y : Option Outcome). opt y false (λ z. true)) j)
+        (nobody-can g s (s .workers) n w (not-true (any-can g s (s .workers)) (b .0)) i))) d
     go signal d = ds (s .signals) (a .0) d
     go tick d = tk (first-time (s .workers)) (b .1) d
+
 good-settles : (n : ℕ) (o : Outcome) → OnResult Good-system ⊥ (settle n o) → (u : System) × (settle n o ≡ is u)
 good-settles n (goes-on c k t) h = (on-worker t n (set-control c k), refl)
 good-settles n (leaves t) h = (t, refl)
 good-settles n stuck h = absurd h
+
 delivers : (s : System) (gs : List Signal) → no-signals gs ≡ false → (u : System) × (deliver s gs ≡ is u)
 delivers s [] h = no-clash refl h
-delivers s (x ∷ gs) h = opt-all (λ r. (u : System) × (r ≡ is u)) (find (s .workers) (x .to)) (is (with-signals s gs)) (λ w. is (take-signal (with-signals s gs) x w)) (λ e. (with-signals s gs, refl)) (λ w e. (take-signal (with-signals s gs) x w, refl))
+delivers s (x ∷ gs) h = opt-all (λ r. (u : System) × (r ≡ is u)) (find (s .workers) (x .to)) (is (with-signals s gs))
+    (λ w. is (take-signal (with-signals s gs) x w)) (λ e. (with-signals s gs, refl))
+    (λ w e. (take-signal (with-signals s gs) x w, refl))
+
 -- what is not quiet has a move
-pub some-move : (g : Program) → Good-program g → (s : System) → Sound s → Good-system s → quiet g s ≡ false → (m : Move) × (u : System) × (move g s m ≡ is u)
-some-move g gd s sd wf h = bool-all (λ a. no-signals (s .signals) ≡ a → (a && (not (any-can g s (s .workers)) && opt (first-time (s .workers)) true (λ t. leb t (s .clock)))) ≡ false → (m : Move) × (u : System) × (move g s m ≡ is u)) (no-signals (s .signals))
-  (λ a i d. bool-all (λ b. any-can g s (s .workers) ≡ b → (not b && opt (first-time (s .workers)) true (λ t. leb t (s .clock))) ≡ false → (m : Move) × (u : System) × (move g s m ≡ is u)) (any-can g s (s .workers))
-    (λ b j f. let r = somebody-can g s (s .workers) (sd .apart) b in let o = can-outcome (turn-of g s (r .1)) (r .3) in let e = turn-settles g s (r .0) (r .1) (o .0) (r .2) (o .1) in let y = good-settles (r .0) (o .0) (subst (OnResult Good-system ⊥) e (move-good g gd s (turn (r .0)) (sd .apart) wf)) in (turn (r .0), y .0, e ∙ y .1))
+pub some-move : (g : Program) → Good-program g → (s : System) → Sound s → Good-system s → quiet g s ≡ false →
+    (m : Move) × (u : System) × (move g s m ≡ is u)
+some-move g gd s sd wf h = bool-all
+    (λ a. no-signals (s .signals) ≡ a →
+    (a && (not (any-can g s (s .workers)) && opt (first-time (s .workers)) true (λ t. leb t (s .clock)))) ≡ false →
+    (m : Move) × (u : System) × (move g s m ≡ is u)) (no-signals (s .signals))
+    (λ a i d. bool-all (λ b. any-can g s (s .workers) ≡ b →
+    (not b && opt (first-time (s .workers)) true (λ t. leb t (s .clock))) ≡ false →
+    (m : Move) × (u : System) × (move g s m ≡ is u)) (any-can g s (s .workers))
+    (λ b j f. let r = somebody-can g s (s .workers) (sd .apart) b in
+    let o = can-outcome (turn-of g s (r .1)) (r .3) in
+    let e = turn-settles g s (r .0) (r .1) (o .0) (r .2) (o .1) in
+    let y = good-settles (r .0) (o .0)
+    (subst (OnResult Good-system ⊥) e (move-good g gd s (turn (r .0)) (sd .apart) wf)) in
+    (turn (r .0), y .0, e ∙ y .1))
     (λ b j f. let y = time (first-time (s .workers)) f in (tick, y .0, y .1)) refl d)
-  (λ a i d. let y = delivers s (s .signals) a in (signal, y .0, y .1)) refl h
+    (λ a i d. let y = delivers s (s .signals) a in (signal, y .0, y .1)) refl h
   where
-    time : (o : Option ℕ) → opt o true (λ t. leb t (s .clock)) ≡ false → (u : System) × (opt o not-allowed (λ t. cond (ltb (s .clock) t) (is (with-clock s t)) not-allowed) ≡ is u)
+    time : (o : Option ℕ) → opt o true (λ t. leb t (s .clock)) ≡ false →
+        (u : System) × (opt o not-allowed (λ t. cond (ltb (s .clock) t) (is (with-clock s t)) not-allowed) ≡ is u)
     time none f = no-clash refl f
-    time (some t) f = (with-clock s t, cond-true (ltb (s .clock) t) (is (with-clock s t)) not-allowed (is-true (ltb (s .clock) t) (lt→ltb (s .clock) t (nleb→lt t (s .clock) (subst (λ (b : Bool). T (not b)) (sym f) tt)))))
+    time (some t) f = (
+      with-clock s t,
+      cond-true (ltb (s .clock) t) (is (with-clock s t)) not-allowed
+          (is-true (ltb (s .clock) t) (lt→ltb (s .clock) t
+          (nleb→lt t (s .clock) (subst (λ (b : Bool). T (not b)) (sym f) tt)))),
+    )
+
 pub quiet-means : Quiet-means
-quiet-means t g l s rd r = (quiet-no-move g s, λ h. bool-all (λ b. quiet g s ≡ b → quiet g s ≡ true) (quiet g s) (λ i j. i) (λ i j. let gd = reads-good t g rd in let y = some-move g gd s (reached-sound g l s r) (reached-good g gd l s r) i in absurd (h (y .0) (y .1) (y .2))) refl)
+quiet-means t g l s rd r = (
+  quiet-no-move g s,
+  λ h. bool-all (λ b. quiet g s ≡ b → quiet g s ≡ true) (quiet g s)
+      (λ i j. i) (λ i j. let gd = reads-good t g rd in
+      let y = some-move g gd s (reached-sound g l s r) (reached-good g gd l s r) i in absurd (h (y .0) (y .1) (y .2)))
+      refl,
+)
+
 pub clock-goes : Clock-goes
-clock-goes g l s q t w r e d later = let a = first-time-below (s .workers) q t w e d in let b = first-time-waited (s .workers) (a .0) (reached-sound g l s r .apart) (a .1) in let c = later (b .0) (a .0) (b .1) (b .2) (b .3) in
-  (a .0, tick-is g s (a .0) (a .1) c, c, a .2)
+clock-goes g l s q t w r e d later =
+    let a = first-time-below (s .workers) q t w e d in
+    let b = first-time-waited (s .workers) (a .0) (reached-sound g l s r .apart) (a .1) in
+    let c = later (b .0) (a .0) (b .1) (b .2) (b .3) in
+    (a .0, tick-is g s (a .0) (a .1) c, c, a .2)
