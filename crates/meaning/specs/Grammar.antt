@@ -229,8 +229,9 @@ mutual
     receive-e : {s : List Name} {cs : Clauses} → ClausesOf s cs →
         ExprAt 4 (k-receive ∷ open-brace ∷ (s ++ (close-brace ∷ []))) (receive cs)
     until-e : {s t u : List Name} {cs : Clauses} {e : Expr} {b : Body} → ClausesOf s cs → ExprAt 0 t e → BodyOf u b →
-        ExprAt 4 (k-receive ∷ open-brace ∷
-        (s ++ (close-brace ∷ k-until ∷ (t ++ (open-brace ∷ (u ++ (close-brace ∷ []))))))) (receive-until cs e b)
+        ExprAt 4
+        (k-receive ∷ open-brace ∷ (s ++ (close-brace ∷ k-until ∷ (t ++ (open-brace ∷ (u ++ (close-brace ∷ [])))))))
+        (receive-until cs e b)
     catch-e : {s : List Name} {b : Body} → BodyOf s b →
         ExprAt 4 (k-catch ∷ open-brace ∷ (s ++ (close-brace ∷ []))) (catch b)
 
@@ -256,11 +257,8 @@ mutual
 -- fn f(x, y) { body }
 pub data FunctionOf : List Name → Function → Type 0 where
   function-x : {x : Name} {s t : List Name} {ps : List Name} {b : Body} → T (is-name x) → NamesOf s ps → BodyOf t b →
-      FunctionOf (k-fn ∷ x ∷ open-paren ∷ (s ++ (close-paren ∷ open-brace ∷ (t ++ (close-brace ∷ []))))) (record {
-        name = x;
-        params = ps;
-        body = b;
-      })
+      FunctionOf (k-fn ∷ x ∷ open-paren ∷ (s ++ (close-paren ∷ open-brace ∷ (t ++ (close-brace ∷ [])))))
+      (record { name = x; params = ps; body = b })
 
 pub data FunctionsOf : List Name → List Function → Type 0 where
   no-f : FunctionsOf [] []

@@ -35,9 +35,11 @@ abbrev pub exit-message : Signal → Value
 exit-message g = v-tuple (and-v (v-atom a-exit) (and-v (v-pid (g .from)) (and-v (g .reason) no-v)))
 
 abbrev pub take-signal : System → Signal → Worker → System
-take-signal s g w = cond (w .traps) (on-worker s (w .pid) (add-mail (exit-message g)))
+take-signal s g w = cond (w .traps)
+    (on-worker s (w .pid) (add-mail (exit-message g)))
     (cond (sameV (g .reason) (v-atom a-normal))
-    (on-worker (on-worker s (w .pid) (cut-link (g .from))) (g .from) (cut-link (w .pid))) (ended s w (g .reason)))
+    (on-worker (on-worker s (w .pid) (cut-link (g .from))) (g .from) (cut-link (w .pid)))
+    (ended s w (g .reason)))
 
 -- the oldest signal; to nobody, if its worker is no more
 abbrev pub deliver : System → List Signal → Result
@@ -92,8 +94,8 @@ no-signals [] = true
 no-signals (x ∷ xs) = false
 
 abbrev pub quiet : Program → System → Bool
-quiet g s = no-signals (s .signals) && (not (any-can g s (s .workers)) && opt (first-time (s .workers)) true
-    (λ t. leb t (s .clock)))
+quiet g s = no-signals (s .signals)
+    && (not (any-can g s (s .workers)) && opt (first-time (s .workers)) true (λ t. leb t (s .clock)))
 
 -- at first every module is loaded in its version 1, and one worker begins with `main` of the first module
 abbrev pub first-versions : Program → List Loaded → List Loaded

@@ -135,8 +135,8 @@ with-name s x n = record {
 -- a worker that begins, with the next number
 abbrev pub with-new : System → Control → System
 with-new s c = record {
-  workers = s .workers ++ (record { pid = s .next; control = c; frames = []; mail = []; links = []; traps = false }
-      ∷ []);
+  workers = s .workers
+      ++ (record { pid = s .next; control = c; frames = []; mail = []; links = []; traps = false } ∷ []);
   next = s .next + 1;
   clock = s .clock;
   loaded = s .loaded;
