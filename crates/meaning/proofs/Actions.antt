@@ -1,5 +1,7 @@
 -- What the scheduler may do, one lemma for each action: a turn, a signal, the clock, the end of a round, the next entry.
 -- Each is a step after which the queue is exact again, and whoever is due stands before the end of the round.
+use Rattle.meaning.proofs.Queue.{Mem-worker, Mem-round, Mem-one}
+use Rattle.meaning.specs.Rounds.{Leads, At-round}
 use mathlib.Core.Path.{_≡_, refl, sym, ap, subst, _∙_}
 use mathlib.Core.Logic.{_⊎_, inl, inr}
 use mathlib.Core.List.{List, [], _∷_, _++_, append-assoc}
@@ -61,8 +63,7 @@ module _ (g : Program) (s t : System) (n k : ℕ) (es new : List Entry) (i : Goo
   turn-able q m = i .exact .able q (Mem-behind (worker n) m)
 
   -- the worker goes on
-  pub turn-on : Could g t n → Step g s (serve n (suc k)) es (turn n ∷ []) t (serve n k) (alive t es ++ new)
-      × Good g t (serve n k) (alive t es ++ new)
+  pub turn-on : Could g t n → Leads g s (serve n (suc k)) es (turn n ∷ []) t (serve n k) (alive t es ++ new)
   turn-on c = (
     by-turn new mv (alive-kept t es) same-slice,
     record {
@@ -80,8 +81,7 @@ module _ (g : Program) (s t : System) (n k : ℕ) (es new : List Entry) (i : Goo
 
   -- its slice is over, but never where its time has come
   pub turn-back : Could g t n → (Due t n → ⊥) →
-      Step g s (serve n (suc k)) es (turn n ∷ []) t (flush batch) (alive t es ++ (new ++ (worker n ∷ [])))
-      × Good g t (flush batch) (alive t es ++ (new ++ (worker n ∷ [])))
+      Leads g s (serve n (suc k)) es (turn n ∷ []) t (flush batch) (alive t es ++ (new ++ (worker n ∷ [])))
   turn-back c h = (
     by-turn (new ++ (worker n ∷ [])) mv (alive-kept t es) slice-over,
     record {
@@ -93,8 +93,7 @@ module _ (g : Program) (s t : System) (n k : ℕ) (es new : List Entry) (i : Goo
   )
 
   -- it can't go on, or is no more
-  pub turn-over : (Could g t n → ⊥) → Step g s (serve n (suc k)) es (turn n ∷ []) t (flush batch) (alive t es ++ new)
-      × Good g t (flush batch) (alive t es ++ new)
+  pub turn-over : (Could g t n → ⊥) → Leads g s (serve n (suc k)) es (turn n ∷ []) t (flush batch) (alive t es ++ new)
   turn-over h = (
     by-turn new mv (alive-kept t es) slice-over,
     record {
@@ -117,8 +116,7 @@ module _ (g : Program) (s t : System) (k : ℕ) (es new : List Entry) (i : Good 
   could-not-next : (q : ℕ) → Could g s q → q ≡ t .next → ⊥
   could-not-next q c e = let h = signal-past .next in nobody-beyond g s (i .numbered) q (omega arith) c
 
-  pub signalled : Step g s (flush (suc k)) es (signal ∷ []) t (flush k) (alive t es ++ new)
-      × Good g t (flush k) (alive t es ++ new)
+  pub signalled : Leads g s (flush (suc k)) es (signal ∷ []) t (flush k) (alive t es ++ new)
   signalled = (
     by-signal new mv (alive-kept t es),
     record {
@@ -136,7 +134,7 @@ module _ (g : Program) (s t : System) (k : ℕ) (es new : List Entry) (i : Good 
     },
   )
 
--- the end of a round: nobody's time has come
+-- at the end of a round nobody's time has come
 no-due : (g : Program) (s : System) (k : ℕ) (es : List Entry) → Good g s (flush k) (round ∷ es) → (q : ℕ) → Due s q →
     ⊥
 no-due g s k es i q y = go (Before-cases (i .timely q y))
@@ -145,9 +143,7 @@ no-due g s k es i q y = go (Before-cases (i .timely q y))
     go (inl (e, m)) = impossible (cc)
     go (inr b) = i .exact .once .0 (Before-mem b)
 
-pub at-round : (g : Program) (s : System) (k : ℕ) (es : List Entry) → Good g s (flush k) (round ∷ es) →
-    ((first-time (s .workers) ≡ none) × (Waits-later s → ⊥))
-    ⊎ ((u : ℕ) × (s .clock < u) × (first-time (s .workers) ≡ some u) × (move g s tick ≡ is (with-clock s u)))
+pub at-round : (g : Program) (s : System) (k : ℕ) (es : List Entry) → Good g s (flush k) (round ∷ es) → At-round g s
 at-round g s k es i = go (first-time (s .workers)) refl
   where
     late : (q : ℕ) (w : Worker) (u : ℕ) → find (s .workers) q ≡ some w → time-of (w .control) ≡ some u → s .clock < u
@@ -160,8 +156,7 @@ at-round g s k es i = go (first-time (s .workers)) refl
     first-late : (u : ℕ) → first-time (s .workers) ≡ some u → s .clock < u
     first-late u e = let r = first-time-waited (s .workers) u (i .numbered .0) e in late (r .0) (r .1) u (r .2) (r .3)
 
-    go : (o : Option ℕ) → first-time (s .workers) ≡ o → ((first-time (s .workers) ≡ none) × (Waits-later s → ⊥))
-        ⊎ ((u : ℕ) × (s .clock < u) × (first-time (s .workers) ≡ some u) × (move g s tick ≡ is (with-clock s u)))
+    go : (o : Option ℕ) → first-time (s .workers) ≡ o → At-round g s
     go none e = inl (e, λ y. no-first-time (s .workers) (y .0) (y .1) (y .2) e (y .3) (y .4))
     go (some u) e = let l = first-late u e in inr (u, l, e, tick-is g s u e l)
 
@@ -190,11 +185,7 @@ module _ (g : Program) (s : System) (k u : ℕ) (es new : List Entry) (i : Good 
   tick-once = (λ m. next-not-able (tick-able (s .next) m), i .exact .once .1)
 
   tick-every : (q : ℕ) → Could g s q → Mem (worker q) (worker (s .next) ∷ es)
-  tick-every q c = Mem-behind (worker (s .next)) (go (Mem-cases (i .exact .all q c)))
-    where
-      go : (worker q ≡ round) ⊎ Mem (worker q) es → Mem (worker q) es
-      go (inl e) = impossible (cc)
-      go (inr m) = m
+  tick-every q c = Mem-behind (worker (s .next)) (Mem-worker (i .exact .all q c))
 
   tick-no-round : Mem round (es ++ new) → ⊥
   tick-no-round m = go (Mem-split es m)
@@ -218,8 +209,7 @@ module _ (g : Program) (s : System) (k u : ℕ) (es new : List Entry) (i : Good 
       (λ e. next-not-able-later (subst (Could g (with-clock s u)) e c)) c))
 
   pub time-goes : Idle s k → move g s tick ≡ is (with-clock s u) →
-      Step g s (flush k) (round ∷ es) (tick ∷ []) (with-clock s u) (flush batch) (es ++ (new ++ (round ∷ [])))
-      × Good g (with-clock s u) (flush batch) (es ++ (new ++ (round ∷ [])))
+      Leads g s (flush k) (round ∷ es) (tick ∷ []) (with-clock s u) (flush batch) (es ++ (new ++ (round ∷ [])))
   time-goes idle mv = (
     by-tick (new ++ (round ∷ [])) idle mv,
     record {
@@ -232,34 +222,19 @@ module _ (g : Program) (s : System) (k u : ℕ) (es new : List Entry) (i : Good 
 -- nobody waits for a time: the next round
 module _ (g : Program) (s : System) (k : ℕ) (es : List Entry) (i : Good g s (flush k) (round ∷ es)) where
   round-every : (q : ℕ) → Could g s q → Mem (worker q) es
-  round-every q c = go (Mem-cases (i .exact .all q c))
-    where
-      go : (worker q ≡ round) ⊎ Mem (worker q) es → Mem (worker q) es
-      go (inl e) = impossible (cc)
-      go (inr m) = m
+  round-every q c = Mem-worker (i .exact .all q c)
 
   round-able : (q : ℕ) → Mem (worker q) (es ++ (round ∷ [])) → Could g s q
-  round-able q m = go (Mem-split es m)
-    where
-      one : (worker q ≡ round) ⊎ Mem (worker q) [] → Could g s q
-      one (inl e) = impossible (cc)
-      one (inr m) = absurd (At-none (m .1))
-
-      go : Mem (worker q) es ⊎ Mem (worker q) (round ∷ []) → Could g s q
-      go (inl a) = i .exact .able q (Mem-behind round a)
-      go (inr b) = one (Mem-cases b)
+  round-able q m = elim (Mem-split es m) [
+      inl a ↦ i .exact .able q (Mem-behind round a)
+    | inr b ↦ impossible (cc (Mem-one b)) ]
 
   round-once : Distinct (es ++ (round ∷ []))
   round-once = Distinct-append es (round ∷ []) (i .exact .once .1) ((λ m. At-none (m .1)), tt)
-      (λ x a b. go x a (Mem-cases b))
-    where
-      go : (x : Entry) → Mem x es → (x ≡ round) ⊎ Mem x [] → ⊥
-      go x a (inl e) = i .exact .once .0 (subst (λ z. Mem z es) e a)
-      go x a (inr b) = At-none (b .1)
+      (λ x a b. i .exact .once .0 (subst (λ z. Mem z es) (Mem-one b) a))
 
   pub next-round : Idle s k → (Waits-later s → ⊥) →
-      Step g s (flush k) (round ∷ es) [] s (flush batch) (es ++ (round ∷ []))
-      × Good g s (flush batch) (es ++ (round ∷ []))
+      Leads g s (flush k) (round ∷ es) [] s (flush batch) (es ++ (round ∷ []))
   next-round idle f = (
     by-round idle f,
     record {
@@ -276,7 +251,7 @@ module _ (g : Program) (s : System) (k : ℕ) (es : List Entry) (i : Good g s (f
   )
 
 pub popped : (g : Program) (s : System) (k p n : ℕ) (es : List Entry) → Good g s (flush k) (worker p ∷ es) →
-    Idle s k → n ≤ slice → Step g s (flush k) (worker p ∷ es) [] s (serve p n) es × Good g s (serve p n) es
+    Idle s k → n ≤ slice → Leads g s (flush k) (worker p ∷ es) [] s (serve p n) es
 popped g s k p n es i idle l = (
   by-pop n idle l,
   record {
@@ -285,13 +260,9 @@ popped g s k p n es i idle l = (
       once = i .exact .once;
       able = i .exact .able;
       all = i .exact .all;
-      rounds = go (Mem-cases (i .exact .rounds));
+      rounds = Mem-round (i .exact .rounds);
       small = l;
     };
     timely = i .timely;
   },
 )
-  where
-    go : (round ≡ worker p) ⊎ Mem round es → Mem round es
-    go (inl e) = impossible (cc)
-    go (inr m) = m

@@ -1,5 +1,6 @@
 -- The scheduler from its beginning on: the first queue is exact, steps add up to moves, and whoever is due is past its
 -- time with its next turn.
+use Rattle.meaning.proofs.Queue.{Mem-worker}
 use mathlib.Core.Path.{_≡_, refl, sym, ap, subst, _∙_}
 use mathlib.Core.Logic.{_⊎_, inl, inr}
 use mathlib.Core.Bool.{Bool, true, false, cond}
@@ -57,8 +58,8 @@ first-exact : (g : Program) (c : Control) → (time-of c ≡ none) × ((t : ℕ)
 first-exact g c (young, ready-c) = record {
   numbered = ((refl, tt), λ q l. find-there (first-worker c) [] q (λ e. low q l e));
   exact = record {
-    once = ((λ m. one (Mem-cases m)), ((λ m. At-none (m .1)), tt));
-    able = λ p m. two p (Mem-cases m);
+    once = ((λ m. At-none (Mem-worker m .1)), ((λ m. At-none (m .1)), tt));
+    able = λ p m. able p (Mem-cases m);
     all = λ p d. subst (λ z. Mem (worker z) (worker 0 ∷ round ∷ []))
         (find-only (first-worker c) (d .0) p (d .1) .0) (zero, here);
     rounds = Mem-behind (worker 0) (zero, here);
@@ -70,19 +71,11 @@ first-exact g c (young, ready-c) = record {
     low : (q : ℕ) → 1 ≤ q → 0 ≡ q → ⊥
     low q l e = omega arith
 
-    one : (worker 0 ≡ round) ⊎ Mem (worker 0) [] → ⊥
-    one (inl e) = impossible (cc)
-    one (inr m) = At-none (m .1)
-
-    three : (p : ℕ) → (worker p ≡ round) ⊎ Mem (worker p) [] → ⊥
-    three p (inl e) = impossible (cc)
-    three p (inr m) = At-none (m .1)
-
-    two : (p : ℕ) → (worker p ≡ worker 0) ⊎ Mem (worker p) (round ∷ []) → Could g (at-first g c) p
-    two p (inl e) =
+    able : (p : ℕ) → (worker p ≡ worker 0) ⊎ Mem (worker p) (round ∷ []) → Could g (at-first g c) p
+    able p (inl e) =
         let y : 0 ≡ p = cc in
         (first-worker c, find-here (first-worker c) [] p y, can-is g (at-first g c) (first-worker c) ∙ ready-c 0 [])
-    two p (inr m) = absurd (three p (Mem-cases m))
+    able p (inr m) = absurd (At-none (Mem-worker m .1))
 
     never : (q : ℕ) → Due (at-first g c) q → ⊥
     never q (x, u, f, e, l) = let y = find-only (first-worker c) x q f .1 in impossible (cc)

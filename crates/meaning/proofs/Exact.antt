@@ -1,5 +1,6 @@
 -- The queue after a move is exact again, if those that became able are put at its end: those that stay in it could go on
 -- before and still can, those behind them could not, and all others cannot.
+use Rattle.meaning.proofs.Queue.{Mem-one}
 use mathlib.Core.Path.{_≡_, refl, sym, subst}
 use mathlib.Core.Logic.{_⊎_, inl, inr}
 use mathlib.Core.List.{List, [], _∷_, _++_, append-assoc}
@@ -84,22 +85,13 @@ module _ (g : Program) (s t : System) (n : ℕ) (keeps′ : (q : ℕ) → (q ≡
 
   at-the-end : (x : Entry) → Distinct (fs ++ new) → (Mem x (fs ++ new) → ⊥) → Distinct (fs ++ (new ++ (x ∷ [])))
   at-the-end x d h = subst Distinct (append-assoc fs new (x ∷ []))
-      (Distinct-append (fs ++ new) (x ∷ []) d ((λ m. At-none (m .1)), tt) (λ y a b. side y a (Mem-cases b)))
-    where
-      side : (y : Entry) → Mem y (fs ++ new) → (y ≡ x) ⊎ Mem y [] → ⊥
-      side y a (inl e) = h (subst (λ z. Mem z (fs ++ new)) e a)
-      side y a (inr b) = At-none (b .1)
+      (Distinct-append (fs ++ new) (x ∷ []) d ((λ m. At-none (m .1)), tt)
+      (λ y a b. h (subst (λ z. Mem z (fs ++ new)) (Mem-one b) a)))
 
   pub before-end : (x y : Entry) → Mem y (fs ++ (new ++ (x ∷ []))) → Mem y (fs ++ new) ⊎ (y ≡ x)
-  before-end x y m = go (Mem-split (fs ++ new) (subst (Mem y) (sym (append-assoc fs new (x ∷ []))) m))
-    where
-      one : (y ≡ x) ⊎ Mem y [] → Mem y (fs ++ new) ⊎ (y ≡ x)
-      one (inl e) = inr e
-      one (inr a) = absurd (At-none (a .1))
-
-      go : Mem y (fs ++ new) ⊎ Mem y (x ∷ []) → Mem y (fs ++ new) ⊎ (y ≡ x)
-      go (inl a) = inl a
-      go (inr b) = one (Mem-cases b)
+  before-end x y m = elim (Mem-split (fs ++ new) (subst (Mem y) (sym (append-assoc fs new (x ∷ []))) m)) [
+      inl a ↦ inl a
+    | inr b ↦ inr (Mem-one b) ]
 
   pub kept-before-end : (x y : Entry) → Mem y (fs ++ new) → Mem y (fs ++ (new ++ (x ∷ [])))
   kept-before-end x y m = subst (Mem y) (append-assoc fs new (x ∷ [])) (Mem-left (x ∷ []) m)

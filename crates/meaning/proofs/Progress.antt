@@ -1,5 +1,6 @@
 -- After finitely many steps without a move there is a move, unless all is quiet or a turn has no meaning: whoever stands
 -- first in the queue can go on, and at the end of a round the clock can, or the next round begins.
+use Rattle.meaning.proofs.Queue.{Mem-worker}
 use mathlib.Core.Path.{_≡_, refl, sym, ap, subst, _∙_}
 use mathlib.Core.Logic.{_⊎_, inl, inr}
 use mathlib.Core.Bool.{true, false, _&&_, not}
@@ -64,11 +65,7 @@ quiet-now g s k i e f = ap (λ z. no-signals z &&
     nobody (r .0) (i .exact .all (r .0) (r .1, r .2, r .3)))) ∙ ap (λ z. opt z true (λ t. leb t (s .clock))) f
   where
     nobody : (q : ℕ) → Mem (worker q) (round ∷ []) → ⊥
-    nobody q m = go (Mem-cases m)
-      where
-        go : (worker q ≡ round) ⊎ Mem (worker q) [] → ⊥
-        go (inl d) = impossible (cc)
-        go (inr b) = At-none (b .1)
+    nobody q m = At-none (Mem-worker m .1)
 
 -- whoever can go on has a turn
 turn-allowed : (g : Program) (s : System) (n : ℕ) → Could g s n → move g s (turn n) ≡ not-allowed → ⊥

@@ -49,6 +49,15 @@ Mem-cases {x} {y} {es} (n, a) = go (At-cases a)
 pub Mem-behind : {x : Entry} (y : Entry) {es : List Entry} → Mem x es → Mem x (y ∷ es)
 Mem-behind y m = (suc (m .0), there (m .1))
 
+pub Mem-worker : {q : ℕ} {es : List Entry} → Mem (worker q) (round ∷ es) → Mem (worker q) es
+Mem-worker {q} {es} m = elim (Mem-cases m) [ inl e ↦ impossible (cc) | inr a ↦ a ]
+
+pub Mem-round : {p : ℕ} {es : List Entry} → Mem round (worker p ∷ es) → Mem round es
+Mem-round {p} {es} m = elim (Mem-cases m) [ inl e ↦ impossible (cc) | inr a ↦ a ]
+
+pub Mem-one : {x y : Entry} → Mem x (y ∷ []) → x ≡ y
+Mem-one {x} {y} m = elim (Mem-cases m) [ inl e ↦ e | inr a ↦ absurd (At-none (a .1)) ]
+
 pub Mem-left : {x : Entry} {es : List Entry} (fs : List Entry) → Mem x es → Mem x (es ++ fs)
 Mem-left fs (n, a) = (n, At-append fs a)
 

@@ -1,5 +1,6 @@
 -- Who becomes able by what a turn does: whoever gets a message that it waits for, and whoever begins, nobody else; and
 -- whom a turn ends. These laws are for those who implement the scheduler.
+use Rattle.meaning.proofs.Queue.{Mem-one}
 use mathlib.Core.Path.{_≡_, refl, sym, ap, subst, _∙_}
 use mathlib.Core.Logic.{_⊎_, inl, inr}
 use mathlib.Core.Bool.{Bool, true, false}
@@ -31,18 +32,13 @@ pub woken-one : (g : Program) (n : ℕ) (s t : System) (p : ℕ) → (p ≡ n �
     ((q : ℕ) → (q ≡ n → ⊥) → (q ≡ p → ⊥) → Could g t q → Could g s q) → Woken g n s t (worker p ∷ [])
 woken-one g n s t p d c f h = record {
   once = ((λ m. At-none (m .1)), tt);
-  each = λ x m. one x (Mem-cases m);
-  all = λ q e b. two q e b (equal-or-not q p);
+  each = λ x m. (p, Mem-one m, d, c, f);
+  all = λ q e b. all q e b (equal-or-not q p);
 }
   where
-    one : (x : Entry) → (x ≡ worker p) ⊎ Mem x [] → (q : ℕ) × (x ≡ worker q) × (q ≡ n → ⊥) × Could g t q
-        × (Could g s q → ⊥)
-    one x (inl e) = (p, e, d, c, f)
-    one x (inr m) = absurd (At-none (m .1))
-
-    two : (q : ℕ) → (q ≡ n → ⊥) → Could g t q → (q ≡ p) ⊎ (q ≡ p → ⊥) → Could g s q ⊎ Mem (worker q) (worker p ∷ [])
-    two q e b (inl y) = inr (subst (λ z. Mem (worker z) (worker p ∷ [])) (sym y) (zero, here))
-    two q e b (inr y) = inl (h q e y b)
+    all : (q : ℕ) → (q ≡ n → ⊥) → Could g t q → (q ≡ p) ⊎ (q ≡ p → ⊥) → Could g s q ⊎ Mem (worker q) (worker p ∷ [])
+    all q e b (inl y) = inr (subst (λ z. Mem (worker z) (worker p ∷ [])) (sym y) (zero, here))
+    all q e b (inr y) = inl (h q e y b)
 
 -- whoever is found as before can as before
 pub could-as-before : (g : Program) (s t : System) (q : ℕ) → t .clock ≡ s .clock →
