@@ -1,7 +1,5 @@
 -- What the scheduler may do, one lemma for each action: a turn, a signal, the clock, the end of a round, the next entry.
 -- Each is a step after which the queue is exact again, and whoever is due stands before the end of the round.
-use Rattle.meaning.proofs.Queue.{Mem-worker, Mem-round, Mem-one}
-use Rattle.meaning.specs.Rounds.{Leads, At-round}
 use mathlib.Core.Path.{_≡_, refl, sym, ap, subst, _∙_}
 use mathlib.Core.Logic.{_⊎_, inl, inr}
 use mathlib.Core.List.{List, [], _∷_, _++_, append-assoc}
@@ -14,11 +12,12 @@ use Rattle.meaning.specs.System.{Worker, System, find, with-clock}
 use Rattle.meaning.specs.Moves.{turn, signal, tick, is, move, time-of, first-time}
 use Rattle.meaning.specs.Fair.{Could, Waits-later}
 use Rattle.meaning.specs.Scheduler.{alive, Woken, Numbered, Before, first, next, Due, Good, Entry, round, worker}
-use Rattle.meaning.specs.Scheduler.{serve, flush, slice, batch, here, Mem, Distinct, Queues, Step, by-turn, by-signal}
+use Rattle.meaning.specs.Scheduler.{serve, flush, slice, batch, here, Mem, Distinct, Queues, by-turn, by-signal}
 use Rattle.meaning.specs.Scheduler.{by-tick, by-round, by-pop, same-slice, slice-over, Idle}
-use Rattle.meaning.proofs.Queue.{At-none, Mem-cases, Mem-behind, could-not-gone, Mem-left, Mem-right, Mem-split}
-use Rattle.meaning.proofs.Queue.{Distinct-append, Before-last, Before-kept, kept-whole, Before-cases, Before-append}
-use Rattle.meaning.proofs.Queue.{Before-mem, kept-mem}
+use Rattle.meaning.specs.Rounds.{Leads, At-round}
+use Rattle.meaning.proofs.Queue.{Mem-worker, Mem-round, Mem-one, At-none, Mem-behind, could-not-gone, Mem-left}
+use Rattle.meaning.proofs.Queue.{Mem-right, Mem-split, Distinct-append, Before-last, Before-kept, kept-whole}
+use Rattle.meaning.proofs.Queue.{Before-cases, Before-append, Before-mem, kept-mem}
 use Rattle.meaning.proofs.Ready.{due-could}
 use Rattle.meaning.proofs.Past.{Undisturbed, undisturbed-same, Undisturbed-or-gone, Past, after-turn, after-signal}
 use Rattle.meaning.proofs.Splits.{equal-or-not, some-or-none, impossible}
@@ -226,8 +225,9 @@ module _ (g : Program) (s : System) (k : ℕ) (es : List Entry) (i : Good g s (f
 
   round-able : (q : ℕ) → Mem (worker q) (es ++ (round ∷ [])) → Could g s q
   round-able q m = elim (Mem-split es m) [
-      inl a ↦ i .exact .able q (Mem-behind round a)
-    | inr b ↦ impossible (cc (Mem-one b)) ]
+    | inl a ↦ i .exact .able q (Mem-behind round a)
+    | inr b ↦ impossible (cc (Mem-one b))
+  ]
 
   round-once : Distinct (es ++ (round ∷ []))
   round-once = Distinct-append es (round ∷ []) (i .exact .once .1) ((λ m. At-none (m .1)), tt)

@@ -1,6 +1,5 @@
 -- The scheduler from its beginning on: the first queue is exact, steps add up to moves, and whoever is due is past its
 -- time with its next turn.
-use Rattle.meaning.proofs.Queue.{Mem-worker}
 use mathlib.Core.Path.{_≡_, refl, sym, ap, subst, _∙_}
 use mathlib.Core.Logic.{_⊎_, inl, inr}
 use mathlib.Core.Bool.{Bool, true, false, cond}
@@ -21,7 +20,7 @@ use Rattle.meaning.specs.Moves.{settle, Move, turn, is, not-allowed, move, on-
 use Rattle.meaning.specs.Fair.{Could, Fair}
 use Rattle.meaning.specs.Scheduler.{Good, Due, first, So-far, Entry, round, worker, Mode, flush, here, Mem, Step}
 use Rattle.meaning.specs.Scheduler.{by-turn, by-signal, by-tick, by-round, by-pop, Steps, start, and-step}
-use Rattle.meaning.proofs.Queue.{At-none, Mem-cases, Mem-behind}
+use Rattle.meaning.proofs.Queue.{Mem-worker, At-none, Mem-cases, Mem-behind}
 use Rattle.meaning.proofs.Finding.{find-here, find-there, find-changed, find-pid, find-only}
 use Rattle.meaning.proofs.Fairness.{fair-always}
 use Rattle.meaning.proofs.Ready.{can-is, ready}

@@ -1,6 +1,5 @@
 -- The queue after a move is exact again, if those that became able are put at its end: those that stay in it could go on
 -- before and still can, those behind them could not, and all others cannot.
-use Rattle.meaning.proofs.Queue.{Mem-one}
 use mathlib.Core.Path.{_≡_, refl, sym, subst}
 use mathlib.Core.Logic.{_⊎_, inl, inr}
 use mathlib.Core.List.{List, [], _∷_, _++_, append-assoc}
@@ -11,8 +10,8 @@ use Rattle.meaning.specs.System.{System, find}
 use Rattle.meaning.specs.Fair.{Could}
 use Rattle.meaning.specs.Scheduler.{Woken, Entry, round, worker, serve, flush, slice, batch, At, here, Mem, Distinct}
 use Rattle.meaning.specs.Scheduler.{Kept, Queues}
-use Rattle.meaning.proofs.Queue.{At-none, Mem-cases, Mem-behind, Mem-right, Mem-split, Distinct-append, Mem-left}
-use Rattle.meaning.proofs.Queue.{kept-from, kept-distinct, kept-mem, could-not-gone}
+use Rattle.meaning.proofs.Queue.{Mem-one, At-none, Mem-cases, Mem-behind, Mem-right, Mem-split, Distinct-append}
+use Rattle.meaning.proofs.Queue.{Mem-left, kept-from, kept-distinct, kept-mem, could-not-gone}
 use Rattle.meaning.proofs.Splits.{equal-or-not, impossible}
 
 module _ (g : Program) (s t : System) (n : ℕ) (keeps′ : (q : ℕ) → (q ≡ n → ⊥) → Could g s q →
@@ -90,8 +89,9 @@ module _ (g : Program) (s t : System) (n : ℕ) (keeps′ : (q : ℕ) → (q ≡
 
   pub before-end : (x y : Entry) → Mem y (fs ++ (new ++ (x ∷ []))) → Mem y (fs ++ new) ⊎ (y ≡ x)
   before-end x y m = elim (Mem-split (fs ++ new) (subst (Mem y) (sym (append-assoc fs new (x ∷ []))) m)) [
-      inl a ↦ inl a
-    | inr b ↦ inr (Mem-one b) ]
+    | inl a ↦ inl a
+    | inr b ↦ inr (Mem-one b)
+  ]
 
   pub kept-before-end : (x y : Entry) → Mem y (fs ++ new) → Mem y (fs ++ (new ++ (x ∷ [])))
   kept-before-end x y m = subst (Mem y) (append-assoc fs new (x ∷ [])) (Mem-left (x ∷ []) m)

@@ -222,7 +222,8 @@ add-link-relinked ws n a p y e =
         | inr h ↦ subst (Relinked-worker (One n a) None p (r .0)) (sym (h .1)) (record {
           from = λ l b. elim (add-link-in l a (r .0) b) [ inl c ↦ inl (c, λ z. z) | inr c ↦ inr (h .0, c) ];
           kept = λ l b c. add-link-more l a (r .0) b;
-          made = λ l m. subst (λ (z : ℕ). among z (add-link a (r .0) .links) ≡ true) (sym (m .1)) (add-link-new a (r .0));
+          made = λ l m. subst (λ (z : ℕ). among z (add-link a (r .0) .links) ≡ true) (sym (m .1))
+              (add-link-new a (r .0));
         })
       ],
     )
@@ -241,7 +242,8 @@ cut-link-relinked ws n a p y e =
         | inr h ↦ subst (Relinked-worker None (One n a) p (r .0)) (sym (h .1)) (record {
           from = λ l b. let other : l ≡ a → ⊥ =
               λ z. no-clash b (subst (λ (z : ℕ). among z (without a (r .0 .links)) ≡ false) (sym z)
-              (among-gone a (r .0 .links))) in inl (sym (among-without l a (r .0 .links) other) ∙ b, λ c. other (c .1));
+              (among-gone a (r .0 .links))) in
+              inl (sym (among-without l a (r .0 .links) other) ∙ b, λ c. other (c .1));
           kept = λ l b c. among-without l a (r .0 .links) (λ z. c (h .0, z)) ∙ b;
           made = λ l m. absurd m;
         })

@@ -1,15 +1,15 @@
 -- What a worker goes on with: a property of controls and frames that a worker's own turn keeps is kept by every move,
 -- since others change no code. So for where code is at work: in which module, in which version.
+use mathlib.Core.Bool.{Bool, _||_, false}
+use mathlib.Core.Option.{Option, some, none}
 use mathlib.Core.Path.{_≡_, refl, sym, ap, subst, _∙_}
 use mathlib.Core.Logic.{_⊎_, inl, inr}
-use mathlib.Core.Bool.{false}
 use mathlib.Core.List.{List, [], _∷_, _++_}
-use mathlib.Core.Option.{some, none}
 use Prim.Native.Nat.{ℕ}
 use lib.ListN.{length}
 use lib.IntN.{ℤ, pos, negsuc}
 use lib.Dec.{leb}
-use Rattle.meaning.specs.Basics.{Name}
+use Rattle.meaning.specs.Basics.{opt, Name}
 use Rattle.meaning.specs.Atoms.{a-type, a-match, a-clause}
 use Rattle.meaning.specs.Syntax.{Operation, Expr, int, atom, var, nil, apply, case, receive, receive-until, catch}
 use Rattle.meaning.specs.Syntax.{Exprs, no-e, and-e, Body, last, bind, Clauses, Program}
@@ -24,7 +24,7 @@ use Rattle.meaning.specs.Turns.{timed-out, turn-with, turn-of}
 use Rattle.meaning.specs.Moves.{take-signal}
 use Rattle.meaning.specs.Effects.{From, own, other, Effect, nothing, sent, spawned, linked-gone, exited, linked}
 use Rattle.meaning.specs.Effects.{trapped, showed, named, took}
-use Rattle.meaning.proofs.Splits.{cond-all, opt-all, OnSome}
+use Rattle.meaning.proofs.Splits.{or-false, OnSome, cond-all, opt-all}
 use Rattle.meaning.proofs.Finding.{Keeps-number, found-before-change, found-before-new, Within, gone-within}
 use Rattle.meaning.proofs.Effects.{Arity, Act, acts-value, acts-error, acts-call, acts-swap, acts-swapped-out}
 use Rattle.meaning.proofs.Effects.{acts-stuck, perform-view, entered-is}
@@ -163,25 +163,91 @@ module _ (PC : Control → Type 0) (PK : List Frame → Type 0) where
       (λ x. (refl, refl)) h)) (within-every (gone (s .workers) (w .pid)) (s .workers)
       (gone-within (s .workers) (w .pid) u) h)
 
--- where code is at work: a property of each module and version
+-- the scope in which a control or a frame is at work, if it is code
+abbrev pub control-scope : Control → Option Scope
+control-scope (eval e w) = some w
+control-scope (give v) = none
+control-scope (enter b w) = some w
+control-scope (fail v) = none
+control-scope (wait cs u w) = some w
+
+abbrev pub frame-scope : Frame → Option Scope
+frame-scope (operands-frame j vs es w) = some w
+frame-scope (bind-frame p b w) = some w
+frame-scope (case-frame cs w) = some w
+frame-scope (until-frame cs b w) = some w
+frame-scope catch-frame = none
+
+-- a property of each module and version at work
+abbrev pub In-scope : (Name → ℕ → Type 0) → Option Scope → Type 0
+In-scope Q o = OnSome (λ w. Q (w .home) (w .version)) o
+
 abbrev pub In-control : (Name → ℕ → Type 0) → Control → Type 0
-In-control Q (eval e w) = Q (w .home) (w .version)
-In-control Q (give v) = Unit {0}
-In-control Q (enter b w) = Q (w .home) (w .version)
-In-control Q (fail v) = Unit {0}
-In-control Q (wait cs u w) = Q (w .home) (w .version)
+In-control Q c = In-scope Q (control-scope c)
 
 abbrev pub In-frame : (Name → ℕ → Type 0) → Frame → Type 0
-In-frame Q (operands-frame j vs es w) = Q (w .home) (w .version)
-In-frame Q (bind-frame p b w) = Q (w .home) (w .version)
-In-frame Q (case-frame cs w) = Q (w .home) (w .version)
-In-frame Q (until-frame cs b w) = Q (w .home) (w .version)
-In-frame Q catch-frame = Unit {0}
+In-frame Q f = In-scope Q (frame-scope f)
 
 abbrev pub In-frames : (Name → ℕ → Type 0) → List Frame → Type 0
 In-frames Q [] = Unit {0}
 In-frames Q (f ∷ fs) = In-frame Q f × In-frames Q fs
 
+-- a test that holds somewhere in a worker's code
+abbrev pub any-scope : (Scope → Bool) → Option Scope → Bool
+any-scope t o = opt o false t
+
+abbrev pub any-frame : (Scope → Bool) → List Frame → Bool
+any-frame t [] = false
+any-frame t (f ∷ k) = any-scope t (frame-scope f) || any-frame t k
+
+abbrev pub any-code : (Scope → Bool) → Worker → Bool
+any-code t w = any-scope t (control-scope (w .control)) || any-frame t (w .frames)
+
+-- where Q rules a test out, it holds nowhere
+none-in-scope : (Q : Name → ℕ → Type 0) (t : Scope → Bool) → ((w : Scope) → Q (w .home) (w .version) → t w ≡ false) →
+    (o : Option Scope) → In-scope Q o → any-scope t o ≡ false
+none-in-scope Q t f none h = refl
+none-in-scope Q t f (some w) h = f w h
+
+none-in-frames : (Q : Name → ℕ → Type 0) (t : Scope → Bool) →
+    ((w : Scope) → Q (w .home) (w .version) → t w ≡ false) → (k : List Frame) → In-frames Q k → any-frame t k ≡ false
+none-in-frames Q t f [] h = refl
+none-in-frames Q t f (x ∷ k) h = ap (λ (b : Bool). b || any-frame t k) (none-in-scope Q t f (frame-scope x) (h .0))
+    ∙ none-in-frames Q t f k (h .1)
+
+pub none-in-code : (Q : Name → ℕ → Type 0) (t : Scope → Bool) →
+    ((w : Scope) → Q (w .home) (w .version) → t w ≡ false) → (w : Worker) →
+    In-control Q (w .control) × In-frames Q (w .frames) → any-code t w ≡ false
+none-in-code Q t f w h = ap (λ (b : Bool). b || any-frame t (w .frames))
+    (none-in-scope Q t f (control-scope (w .control)) (h .0)) ∙ none-in-frames Q t f (w .frames) (h .1)
+
+-- where a test holds nowhere, Q becomes R
+kept-in-scope : (Q R : Name → ℕ → Type 0) (t : Scope → Bool) →
+    ((w : Scope) → Q (w .home) (w .version) → t w ≡ false → R (w .home) (w .version)) → (o : Option Scope) →
+    In-scope Q o → any-scope t o ≡ false → In-scope R o
+kept-in-scope Q R t f none h e = tt
+kept-in-scope Q R t f (some w) h e = f w h e
+
+kept-in-frames : (Q R : Name → ℕ → Type 0) (t : Scope → Bool) →
+    ((w : Scope) → Q (w .home) (w .version) → t w ≡ false → R (w .home) (w .version)) → (k : List Frame) →
+    In-frames Q k → any-frame t k ≡ false → In-frames R k
+kept-in-frames Q R t f [] h e = tt
+kept-in-frames Q R t f (x ∷ k) h e =
+    let z = or-false (any-scope t (frame-scope x)) (any-frame t k) e in
+    (kept-in-scope Q R t f (frame-scope x) (h .0) (z .0), kept-in-frames Q R t f k (h .1) (z .1))
+
+pub kept-in-code : (Q R : Name → ℕ → Type 0) (t : Scope → Bool) →
+    ((w : Scope) → Q (w .home) (w .version) → t w ≡ false → R (w .home) (w .version)) → (w : Worker) →
+    In-control Q (w .control) × In-frames Q (w .frames) → any-code t w ≡ false →
+    In-control R (w .control) × In-frames R (w .frames)
+kept-in-code Q R t f w h e =
+    let z = or-false (any-scope t (control-scope (w .control))) (any-frame t (w .frames)) e in (
+      kept-in-scope Q R t f (control-scope (w .control)) (h .0) (z .0),
+      kept-in-frames Q R t f (w .frames) (h .1)
+          (z .1),
+    )
+
+-- calls and spawns enter code in their own version, or in a current one
 pub entered-in : (Q : Name → ℕ → Type 0) (g : Program) (m : Name) (n : ℕ) (f : Name) (vs : List Value)
     (c : Control) → enter-function g m n f vs ≡ some c → Q m n → In-control Q c
 entered-in Q g m n f vs c e q = subst (In-control Q) (entered-is g m n f vs c e .4) q

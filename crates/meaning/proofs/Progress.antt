@@ -1,6 +1,5 @@
 -- After finitely many steps without a move there is a move, unless all is quiet or a turn has no meaning: whoever stands
 -- first in the queue can go on, and at the end of a round the clock can, or the next round begins.
-use Rattle.meaning.proofs.Queue.{Mem-worker}
 use mathlib.Core.Path.{_≡_, refl, sym, ap, subst, _∙_}
 use mathlib.Core.Logic.{_⊎_, inl, inr}
 use mathlib.Core.Bool.{true, false, _&&_, not}
@@ -20,7 +19,7 @@ use Rattle.meaning.specs.Fair.{Could, Waits-later}
 use Rattle.meaning.specs.Scheduler.{Woken, Good, Due, Entry, round, worker, Mode, serve, flush, slice, batch, here}
 use Rattle.meaning.specs.Scheduler.{Mem, Step, Idle}
 use Rattle.meaning.specs.Rounds.{Budget, Soon, now, after}
-use Rattle.meaning.proofs.Queue.{At-none, Mem-cases}
+use Rattle.meaning.proofs.Queue.{Mem-worker, At-none}
 use Rattle.meaning.proofs.Past.{after-turn, after-signal}
 use Rattle.meaning.proofs.Actions.{turn-on, turn-back, turn-over, signalled, at-round, time-goes, next-round, popped}
 use Rattle.meaning.proofs.Scanning.{woken-time, those, newly-could, woken-all, could-or-not, newly-can}

@@ -1,6 +1,6 @@
 -- Case splits with a motive: to show P of a test or an option, show it of each way, knowing which way it is.
 -- All case analysis of computed tests in this crate goes through these.
-use mathlib.Core.Path.{_≡_, refl, sym, subst}
+use mathlib.Core.Path.{ap, _∙_, _≡_, refl, sym, subst}
 use mathlib.Core.Logic.{_⊎_, inl, inr}
 use mathlib.Core.Bool.{Bool, true, false, _&&_, cond, _||_, not}
 use mathlib.Core.List.{[], _∷_}
@@ -36,6 +36,9 @@ bool-all P false p q = q refl
 pub or-false : (a b : Bool) → (a || b) ≡ false → (a ≡ false) × (b ≡ false)
 or-false true b e = no-clash refl e
 or-false false b e = (refl, e)
+
+pub or-both : {a b c d : Bool} → a ≡ c → b ≡ d → (a || b) ≡ (c || d)
+or-both {a} {b} {c} {d} p q = ap (λ (x : Bool). x || b) p ∙ ap (λ (x : Bool). c || x) q
 
 pub and-true : (a b : Bool) → (a && b) ≡ true → (a ≡ true) × (b ≡ true)
 and-true true b e = (refl, e)

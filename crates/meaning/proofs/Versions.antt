@@ -2,7 +2,7 @@
 -- Calls enter the current version or stay in their own, and a swap ends whatever would fall behind.
 use mathlib.Core.Path.{_≡_, refl, sym, ap, subst, _∙_}
 use mathlib.Core.Logic.{inl}
-use mathlib.Core.Bool.{Bool, true, false, _&&_, _||_, not, cond}
+use mathlib.Core.Bool.{Bool, true, false, _&&_, not, cond}
 use mathlib.Core.List.{List, [], _∷_, _++_}
 use mathlib.Core.Option.{Option, some}
 use Prim.Native.Nat.{ℕ, _+_, _-_, _≤_}
@@ -11,19 +11,21 @@ use lib.Dec.{ltb, T, ltb→lt, nltb→le}
 use Rattle.meaning.specs.Basics.{opt, Name, same}
 use Rattle.meaning.specs.Atoms.{a-main}
 use Rattle.meaning.specs.Syntax.{Program}
-use Rattle.meaning.specs.System.{Control, eval, give, enter, fail, wait, Frame, operands-frame, bind-frame}
+use Rattle.meaning.specs.System.{old-scope, Control, eval, give, enter, fail, wait, Frame, operands-frame, bind-frame}
 use Rattle.meaning.specs.System.{case-frame, until-frame, catch-frame, Worker, Loaded, System, with-signals, find}
 use Rattle.meaning.specs.System.{change, set-control, gone, current, now-loaded, old-control, old-frame, old-frames}
 use Rattle.meaning.specs.System.{old, Apart, swapped}
 use Rattle.meaning.specs.Turns.{Outcome, enter-function}
 use Rattle.meaning.specs.Moves.{Move, turn, signal, tick, settle, take-signal, move, first-versions, first-name}
-use Rattle.meaning.specs.Promise.{Reached, Two-versions, ahead-control, ahead-frame, ahead-frames, None-ahead}
+use Rattle.meaning.specs.Promise.{ahead-scope, Reached, Two-versions, ahead-control, ahead-frame, ahead-frames}
+use Rattle.meaning.specs.Promise.{None-ahead}
 use Rattle.meaning.specs.Effects.{Turned, turn-goes, turn-ends, turn-swaps, turn-swapped-out, turn-stuck}
-use Rattle.meaning.proofs.Splits.{T-of, is-false, no-clash, cond-all, opt-all, cond-false, bool-all, some-is}
-use Rattle.meaning.proofs.Splits.{none-some, same-is, same-refl, OnSome, or-false, same-and-false}
+use Rattle.meaning.proofs.OwnCode.{any-scope, any-frame, any-code, control-scope, frame-scope, none-in-code}
+use Rattle.meaning.proofs.OwnCode.{kept-in-code, Every-worker, within-every, settle-every, signal-every, Onward}
+use Rattle.meaning.proofs.OwnCode.{In-control, In-frames, entered-in, turn-onward}
+use Rattle.meaning.proofs.Splits.{or-both, T-of, is-false, no-clash, cond-all, opt-all, cond-false, bool-all, some-is}
+use Rattle.meaning.proofs.Splits.{none-some, same-is, same-refl, OnSome, same-and-false}
 use Rattle.meaning.proofs.Links.{Sound, move-sound, first-sound}
-use Rattle.meaning.proofs.OwnCode.{Every-worker, within-every, settle-every, signal-every, Onward, In-control}
-use Rattle.meaning.proofs.OwnCode.{In-frame, In-frames, entered-in, turn-onward}
 use Rattle.meaning.proofs.Finding.{gone-within, find-only}
 use Rattle.meaning.proofs.Results.{OnIs, turn-all, tick-all, at-first, reached-all, deliver-all, take-signal-all}
 use Rattle.meaning.proofs.Results.{on-both, first-worker}
@@ -69,36 +71,52 @@ span-after-swap ls x m h v e sp o n d =
     let hi = sp m (subst (λ (u : Name). current ls u ≡ some m) (sym z) e) in (omega arith, omega arith))
     (λ i j f. sp n (sym (current-other ls x h (m + 1) i) ∙ d)) refl o
 
-module _ (ls : List Loaded) (x : Name) (m : ℕ) (e : current ls x ≡ some m) where
-  control-after-swap : (c : Control) → In-control (Span ls) c → old-control x m c ≡ false →
-      In-control (Span (now-loaded ls x (m + 1))) c
-  control-after-swap (eval a w) h o = span-after-swap ls x m (w .home) (w .version) e h o
-  control-after-swap (give v) h o = tt
-  control-after-swap (enter b w) h o = span-after-swap ls x m (w .home) (w .version) e h o
-  control-after-swap (fail v) h o = tt
-  control-after-swap (wait cs u w) h o = span-after-swap ls x m (w .home) (w .version) e h o
+-- `old`, and what is ahead, as tests of scopes
+old-control-scope : (x : Name) (n : ℕ) (c : Control) → old-control x n c ≡ any-scope (old-scope x n) (control-scope c)
+old-control-scope x n (eval e w) = refl
+old-control-scope x n (give v) = refl
+old-control-scope x n (enter b w) = refl
+old-control-scope x n (fail v) = refl
+old-control-scope x n (wait cs u w) = refl
 
-  frame-after-swap : (f : Frame) → In-frame (Span ls) f → old-frame x m f ≡ false →
-      In-frame (Span (now-loaded ls x (m + 1))) f
-  frame-after-swap (operands-frame j vs es w) h o = span-after-swap ls x m (w .home) (w .version) e h o
-  frame-after-swap (bind-frame p b w) h o = span-after-swap ls x m (w .home) (w .version) e h o
-  frame-after-swap (case-frame cs w) h o = span-after-swap ls x m (w .home) (w .version) e h o
-  frame-after-swap (until-frame cs b w) h o = span-after-swap ls x m (w .home) (w .version) e h o
-  frame-after-swap catch-frame h o = tt
+old-frame-scope : (x : Name) (n : ℕ) (f : Frame) → old-frame x n f ≡ any-scope (old-scope x n) (frame-scope f)
+old-frame-scope x n (operands-frame j vs es w) = refl
+old-frame-scope x n (bind-frame p b w) = refl
+old-frame-scope x n (case-frame cs w) = refl
+old-frame-scope x n (until-frame cs b w) = refl
+old-frame-scope x n catch-frame = refl
 
-  frames-after-swap : (k : List Frame) → In-frames (Span ls) k → old-frames x m k ≡ false →
-      In-frames (Span (now-loaded ls x (m + 1))) k
-  frames-after-swap [] h o = tt
-  frames-after-swap (f ∷ k) h o =
-      let z = or-false (old-frame x m f) (old-frames x m k) o in
-      (frame-after-swap f (h .0) (z .0), frames-after-swap k (h .1) (z .1))
+old-frames-scope : (x : Name) (n : ℕ) (k : List Frame) → old-frames x n k ≡ any-frame (old-scope x n) k
+old-frames-scope x n [] = refl
+old-frames-scope x n (f ∷ k) = or-both (old-frame-scope x n f) (old-frames-scope x n k)
 
-  worker-after-swap : (w : Worker) → In-control (Span ls) (w .control) × In-frames (Span ls) (w .frames) →
-      old x m w ≡ false → In-control (Span (now-loaded ls x (m + 1))) (w .control)
-      × In-frames (Span (now-loaded ls x (m + 1))) (w .frames)
-  worker-after-swap w h o =
-      let z = or-false (old-control x m (w .control)) (old-frames x m (w .frames)) o in
-      (control-after-swap (w .control) (h .0) (z .0), frames-after-swap (w .frames) (h .1) (z .1))
+old-is-scope : (x : Name) (n : ℕ) (w : Worker) → old x n w ≡ any-code (old-scope x n) w
+old-is-scope x n w = or-both (old-control-scope x n (w .control)) (old-frames-scope x n (w .frames))
+
+ahead-control-scope : (x : Name) (n : ℕ) (c : Control) →
+    ahead-control x n c ≡ any-scope (ahead-scope x n) (control-scope c)
+ahead-control-scope x n (eval e w) = refl
+ahead-control-scope x n (give v) = refl
+ahead-control-scope x n (enter b w) = refl
+ahead-control-scope x n (fail v) = refl
+ahead-control-scope x n (wait cs u w) = refl
+
+ahead-frame-scope : (x : Name) (n : ℕ) (f : Frame) → ahead-frame x n f ≡ any-scope (ahead-scope x n) (frame-scope f)
+ahead-frame-scope x n (operands-frame j vs es w) = refl
+ahead-frame-scope x n (bind-frame p b w) = refl
+ahead-frame-scope x n (case-frame cs w) = refl
+ahead-frame-scope x n (until-frame cs b w) = refl
+ahead-frame-scope x n catch-frame = refl
+
+ahead-frames-scope : (x : Name) (n : ℕ) (k : List Frame) → ahead-frames x n k ≡ any-frame (ahead-scope x n) k
+ahead-frames-scope x n [] = refl
+ahead-frames-scope x n (f ∷ k) = or-both (ahead-frame-scope x n f) (ahead-frames-scope x n k)
+
+worker-after-swap : (ls : List Loaded) (x : Name) (m : ℕ) → current ls x ≡ some m → (w : Worker) →
+    In-control (Span ls) (w .control) × In-frames (Span ls) (w .frames) → old x m w ≡ false →
+    In-control (Span (now-loaded ls x (m + 1))) (w .control) × In-frames (Span (now-loaded ls x (m + 1))) (w .frames)
+worker-after-swap ls x m e w h o = kept-in-code (Span ls) (Span (now-loaded ls x (m + 1))) (old-scope x m)
+    (λ v sp d. span-after-swap ls x m (v .home) (v .version) e sp d) w h (sym (old-is-scope x m w) ∙ o)
 
 abbrev pub Spans : System → Type 0
 Spans s = Every-in (Span (s .loaded)) (s .workers)
@@ -211,54 +229,11 @@ not-ahead : (ls : List Loaded) (x : Name) (n : ℕ) (h : Name) (v : ℕ) → cur
 not-ahead ls x n h v e sp = same-and-false h x (ltb n v)
     (λ i. let z = sp n (ap (current ls) i ∙ e) in is-false (ltb n v) (λ t. let y = ltb→lt n v t in omega arith))
 
-module _ (ls : List Loaded) (x : Name) (n : ℕ) (e : current ls x ≡ some n) where
-  control-not-old : (c : Control) → In-control (Span ls) c → old-control x (n - 1) c ≡ false
-  control-not-old (eval a w) h = not-old ls x n (w .home) (w .version) e h
-  control-not-old (give v) h = refl
-  control-not-old (enter b w) h = not-old ls x n (w .home) (w .version) e h
-  control-not-old (fail v) h = refl
-  control-not-old (wait cs u w) h = not-old ls x n (w .home) (w .version) e h
-
-  frame-not-old : (f : Frame) → In-frame (Span ls) f → old-frame x (n - 1) f ≡ false
-  frame-not-old (operands-frame j vs es w) h = not-old ls x n (w .home) (w .version) e h
-  frame-not-old (bind-frame p b w) h = not-old ls x n (w .home) (w .version) e h
-  frame-not-old (case-frame cs w) h = not-old ls x n (w .home) (w .version) e h
-  frame-not-old (until-frame cs b w) h = not-old ls x n (w .home) (w .version) e h
-  frame-not-old catch-frame h = refl
-
-  frames-not-old : (k : List Frame) → In-frames (Span ls) k → old-frames x (n - 1) k ≡ false
-  frames-not-old [] h = refl
-  frames-not-old (f ∷ k) h = ap (λ (b : Bool). b || old-frames x (n - 1) k) (frame-not-old f (h .0))
-      ∙ frames-not-old k (h .1)
-
 pub two-versions : Two-versions
-two-versions g l s x n p w r e f =
-    let h = reached-spans g l s r p w f in
-    ap (λ (b : Bool). b || old-frames x (n - 1) (w .frames)) (control-not-old (s .loaded) x n e (w .control) (h .0))
-    ∙ frames-not-old (s .loaded) x n e (w .frames) (h .1)
-
-module _ (ls : List Loaded) (x : Name) (n : ℕ) (e : current ls x ≡ some n) where
-  control-not-ahead : (c : Control) → In-control (Span ls) c → ahead-control x n c ≡ false
-  control-not-ahead (eval a w) h = not-ahead ls x n (w .home) (w .version) e h
-  control-not-ahead (give v) h = refl
-  control-not-ahead (enter b w) h = not-ahead ls x n (w .home) (w .version) e h
-  control-not-ahead (fail v) h = refl
-  control-not-ahead (wait cs u w) h = not-ahead ls x n (w .home) (w .version) e h
-
-  frame-not-ahead : (f : Frame) → In-frame (Span ls) f → ahead-frame x n f ≡ false
-  frame-not-ahead (operands-frame j vs es w) h = not-ahead ls x n (w .home) (w .version) e h
-  frame-not-ahead (bind-frame p b w) h = not-ahead ls x n (w .home) (w .version) e h
-  frame-not-ahead (case-frame cs w) h = not-ahead ls x n (w .home) (w .version) e h
-  frame-not-ahead (until-frame cs b w) h = not-ahead ls x n (w .home) (w .version) e h
-  frame-not-ahead catch-frame h = refl
-
-  frames-not-ahead : (k : List Frame) → In-frames (Span ls) k → ahead-frames x n k ≡ false
-  frames-not-ahead [] h = refl
-  frames-not-ahead (f ∷ k) h = ap (λ (b : Bool). b || ahead-frames x n k) (frame-not-ahead f (h .0))
-      ∙ frames-not-ahead k (h .1)
+two-versions g l s x n p w r e f = old-is-scope x (n - 1) w ∙ none-in-code (Span (s .loaded)) (old-scope x (n - 1))
+    (λ v sp. not-old (s .loaded) x n (v .home) (v .version) e sp) w (reached-spans g l s r p w f)
 
 pub none-ahead : None-ahead
-none-ahead g l s x n p w r e f =
-    let h = reached-spans g l s r p w f in
-    ap (λ (b : Bool). b || ahead-frames x n (w .frames)) (control-not-ahead (s .loaded) x n e (w .control) (h .0))
-    ∙ frames-not-ahead (s .loaded) x n e (w .frames) (h .1)
+none-ahead g l s x n p w r e f = or-both (ahead-control-scope x n (w .control)) (ahead-frames-scope x n (w .frames))
+    ∙ none-in-code (Span (s .loaded)) (ahead-scope x n)
+    (λ v sp. not-ahead (s .loaded) x n (v .home) (v .version) e sp) w (reached-spans g l s r p w f)

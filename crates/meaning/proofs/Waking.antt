@@ -1,6 +1,5 @@
 -- Who becomes able by what a turn does: whoever gets a message that it waits for, and whoever begins, nobody else; and
 -- whom a turn ends. These laws are for those who implement the scheduler.
-use Rattle.meaning.proofs.Queue.{Mem-one}
 use mathlib.Core.Path.{_≡_, refl, sym, ap, subst, _∙_}
 use mathlib.Core.Logic.{_⊎_, inl, inr}
 use mathlib.Core.Bool.{Bool, true, false}
@@ -16,7 +15,7 @@ use Rattle.meaning.specs.System.{on-worker, add-mail, ended, with-new}
 use Rattle.meaning.specs.Turns.{can, take-first, Taken, Chosen, choose, keep-front}
 use Rattle.meaning.specs.Fair.{Could}
 use Rattle.meaning.specs.Scheduler.{Woken, alive, Numbered, Good, next, Entry, worker, serve, here, Mem}
-use Rattle.meaning.proofs.Queue.{Mem-behind, could-not-gone, At-none, Mem-cases}
+use Rattle.meaning.proofs.Queue.{Mem-one, Mem-behind, could-not-gone, At-none}
 use Rattle.meaning.proofs.Finding.{find-here, find-there, Keeps-number, find-change-other, find-changed}
 use Rattle.meaning.proofs.Finding.{find-append-some, find-append-none, find-gone-other, change-ends-nobody}
 use Rattle.meaning.proofs.Ready.{can-is, ready, due, has, keep-front-has, can-same}
