@@ -1,5 +1,5 @@
--- Who can go on can still go on after any move but its own, or is no more: others add mail at most, and the clock goes
--- forward. Who newly can go on after another's turn is the new one, or got one message.
+-- Who can go on can still go on after any move but its own, or is no more: others add mail at most, and the clock
+-- goes forward. Who newly can go on after another's turn is the new one, or got one message.
 use mathlib.Core.Path.{_≡_, refl, sym, ap, _∙_, subst}
 use mathlib.Core.Logic.{_⊎_, inl, inr}
 use mathlib.Core.Bool.{true}
@@ -34,8 +34,7 @@ module _ (g : Program) (s t : System) where
       inl (
         x,
         e,
-        can-is g t x ∙ ap (λ z. ready (t .clock) z (x .mail)) a ∙ ap
-            (λ z. ready (t .clock) (w .control) z) b
+        can-is g t x ∙ ap (λ z. ready (t .clock) z (x .mail)) a ∙ ap (λ z. ready (t .clock) (w .control) z) b
             ∙ ready-more (s .clock) (t .clock) (w .control) (w .mail) ms le (sym (can-is g s w) ∙ c),
       )
 

@@ -1,5 +1,5 @@
--- What the scheduler may do, one lemma for each action: a turn, a signal, the clock, the end of a round, the next entry.
--- Each is a step after which the queue is exact again, and whoever is due stands before the end of the round.
+-- What the scheduler may do, one lemma for each action: a turn, a signal, the clock, the end of a round, the next
+-- entry. Each is a step after which the queue is exact again, and whoever is due stands before the end of the round.
 use mathlib.Core.Path.{_≡_, refl, sym, ap, subst, _∙_}
 use mathlib.Core.Logic.{_⊎_, inl, inr}
 use mathlib.Core.List.{List, [], _∷_, _++_, append-assoc}

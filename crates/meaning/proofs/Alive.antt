@@ -1,5 +1,5 @@
--- A queue without the workers that are no more: what is left keeps its order, and whoever is passed over now is passed
--- over later too.
+-- A queue without the workers that are no more: what is left keeps its order, and whoever is passed over now is
+-- passed over later too.
 use mathlib.Core.Path.{_≡_, refl, ap, sym, _∙_}
 use mathlib.Core.Logic.{_⊎_, inl, inr}
 use mathlib.Core.List.{List, [], _∷_, _++_}

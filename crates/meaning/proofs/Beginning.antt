@@ -1,5 +1,5 @@
--- The scheduler from its beginning on: the first queue is exact, steps add up to moves, and whoever is due is past its
--- time with its next turn.
+-- The scheduler from its beginning on: the first queue is exact, steps add up to moves, and whoever is due is past
+-- its time with its next turn.
 use mathlib.Core.Path.{_≡_, refl, sym, ap, subst, _∙_}
 use mathlib.Core.Logic.{_⊎_, inl, inr}
 use mathlib.Core.Bool.{Bool, true, false, cond}
@@ -88,8 +88,7 @@ so-far-begins g b h = begin-all g (λ z. So-far g z [] z (flush 0) (worker 0 ∷
     begun c e =
         let d = entered-is g (first-name g) 1 a-main [] c e .4 in (
           subst (λ (z : Control). time-of z ≡ none) d refl,
-          λ t ms. subst
-              (λ (z : Control). ready t z ms ≡ true) d refl,
+          λ t ms. subst (λ (z : Control). ready t z ms ≡ true) d refl,
         )
 
 -- whose time has come is past it with its next turn: so one turn more ends a slice

@@ -1,5 +1,5 @@
--- The queue after a move is exact again, if those that became able are put at its end: those that stay in it could go on
--- before and still can, those behind them could not, and all others cannot.
+-- The queue after a move is exact again, if those that became able are put at its end: those that stay in it could go
+-- on before and still can, those behind them could not, and all others cannot.
 use mathlib.Core.Path.{_≡_, refl, sym, subst}
 use mathlib.Core.Logic.{_⊎_, inl, inr}
 use mathlib.Core.List.{List, [], _∷_, _++_, append-assoc}

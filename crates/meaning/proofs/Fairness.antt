@@ -1,5 +1,6 @@
--- Every order of moves that the scheduler makes is fair: each step brings whoever waits in the queue nearer by as many
--- moves as it makes, so a stretch without a certain move is short (`stretch-short`), shorter than what counts as long.
+-- Every order of moves that the scheduler makes is fair: each step brings whoever waits in the queue nearer by as
+-- many moves as it makes, so a stretch without a certain move is short (`stretch-short`), shorter than what counts as
+-- long.
 use mathlib.Core.Path.{_≡_, refl, sym, ap, subst, _∙_}
 use mathlib.Core.Logic.{_⊎_, inl, inr}
 use mathlib.Core.List.{List, [], _∷_, _++_, append-assoc, append-nil}
@@ -159,8 +160,8 @@ all-through-later : (g : Program) (s s′ : System) (x : Move) (l : List Move) (
 all-through-later g s s′ x l P e all =
     λ c d t h k. all (x ∷ c) d t (ap (λ y. x ∷ y) h) (ap (λ r. on-is r (λ u. moves g u c)) e ∙ k)
 
--- a stretch without the move x is short, if each step brings x nearer, as `Due-in` counts, or is x, or nearly ends the
--- stretch
+-- a stretch without the move x is short, if each step brings x nearer, as `Due-in` counts, or is x, or nearly ends
+-- the stretch
 abbrev Nearly-ends : Program → Move → List Move → System → Mode → List Entry → Type 0
 Nearly-ends g x l s m es = (b : List Move) → Runs g s m es b → (In x (l ++ b) → ⊥) → length (l ++ b) ≤ 1
 

@@ -30,8 +30,8 @@ find-there w ws q d = cond-false (eqb (w .pid) q) (some w) (find ws q) (eqb-no (
 
 pub find-none-there : (w : Worker) (ws : List Worker) (q : ℕ) → find (w ∷ ws) q ≡ none →
     (w .pid ≡ q → ⊥) × (find ws q ≡ none)
-find-none-there w ws q e = cond-all
-    (λ o. o ≡ none → (w .pid ≡ q → ⊥) × (find ws q ≡ none)) (eqb (w .pid) q) (some w) (find ws q)
+find-none-there w ws q e =
+    cond-all (λ o. o ≡ none → (w .pid ≡ q → ⊥) × (find ws q ≡ none)) (eqb (w .pid) q) (some w) (find ws q)
     (λ h d. absurd (none-some (sym d))) (λ h d. (eqb-isnt (w .pid) q h, d)) e
 
 pub find-only : (w x : Worker) (q : ℕ) → find (w ∷ []) q ≡ some x → (w .pid ≡ q) × (w ≡ x)
@@ -147,8 +147,8 @@ Within vs ws = (q : ℕ) (y : Worker) → find vs q ≡ some y → find ws q ≡
 
 pub gone-within : (ws : List Worker) (n : ℕ) → Apart ws → Within (gone ws n) ws
 gone-within ws n u q y e = bool-all (λ b. find ws q ≡ some y) (eqb q n)
-    (λ h. absurd (none-some (sym (subst
-    (λ (z : ℕ). find (gone ws n) z ≡ none) (sym (eqb-is q n h)) (find-gone-same ws n u)) ∙ e)))
+    (λ h. absurd (none-some (sym (
+    subst (λ (z : ℕ). find (gone ws n) z ≡ none) (sym (eqb-is q n h)) (find-gone-same ws n u)) ∙ e)))
     (λ h. sym (find-gone-other ws n q (eqb-isnt q n h)) ∙ e)
 
 -- others behind them, or a new one
@@ -192,8 +192,8 @@ apart-gone (w ∷ ws) n u = bool-all (λ b. eqb (w .pid) n ≡ b → Apart (cond
 
 pub apart-new : (ws : List Worker) (v : Worker) → find ws (v .pid) ≡ none → Apart ws → Apart (ws ++ (v ∷ []))
 apart-new [] v e u = (refl, tt)
-apart-new (w ∷ ws) v e u = cond-all
-    (λ o. o ≡ none → Apart (w ∷ (ws ++ (v ∷ [])))) (eqb (w .pid) (v .pid)) (some w) (find ws (v .pid))
+apart-new (w ∷ ws) v e u =
+    cond-all (λ o. o ≡ none → Apart (w ∷ (ws ++ (v ∷ [])))) (eqb (w .pid) (v .pid)) (some w) (find ws (v .pid))
     (λ h e. absurd (none-some (sym e)))
     (λ h e. (
       find-append-none ws (v ∷ []) (w .pid) (u .0)

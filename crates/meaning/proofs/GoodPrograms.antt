@@ -1,5 +1,6 @@
 -- A program that is read is good: code uses only names that are bound, and operations have as many operands as they
--- take. Matching binds just the names of its patterns, so whatever clause is chosen is good under the names bound then.
+-- take. Matching binds just the names of its patterns, so whatever clause is chosen is good under the names bound
+-- then.
 use mathlib.Core.Path.{_≡_, refl, sym, ap, subst}
 use mathlib.Core.Bool.{true, false, _&&_, _||_, cond}
 use mathlib.Core.List.{List, [], _∷_}
@@ -174,8 +175,8 @@ names-of-params (x ∷ xs) (v ∷ vs) e =
 
 pub listed-found : (bs : List Binding) (x : Name) → T (listed x (names-of bs)) → look-up bs x ≡ none → ⊥
 listed-found [] x t e = t
-listed-found (b ∷ bs) x t e = bool-all
-    (λ i. same (b .name) x ≡ i → cond i (some (b .value)) (look-up bs x) ≡ none → ⊥) (same (b .name) x)
+listed-found (b ∷ bs) x t e =
+    bool-all (λ i. same (b .name) x ≡ i → cond i (some (b .value)) (look-up bs x) ≡ none → ⊥) (same (b .name) x)
     (λ h j d. none-some (sym d)) (λ h j d. listed-found bs x (rest h) d) refl e
   where
     rest : same (b .name) x ≡ false → T (listed x (names-of bs))

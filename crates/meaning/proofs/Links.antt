@@ -36,14 +36,14 @@ pub among-without : (l x : ℕ) (ls : List ℕ) → (l ≡ x → ⊥) → among 
 among-without l x [] h = refl
 among-without l x (y ∷ ls) h = bool-all
     (λ b. eqb x y ≡ b → among l (cond b (without x ls) (y ∷ without x ls)) ≡ (eqb l y || among l ls)) (eqb x y)
-    (λ e r. among-without l x ls h ∙ ap
-    (λ (b : Bool). b || among l ls) (sym (eqb-no l y (λ q. h (q ∙ sym (eqb-is x y e))))))
+    (λ e r. among-without l x ls h
+    ∙ ap (λ (b : Bool). b || among l ls) (sym (eqb-no l y (λ q. h (q ∙ sym (eqb-is x y e))))))
     (λ e r. ap (λ (b : Bool). eqb l y || b) (among-without l x ls h)) refl
 
 pub among-gone : (x : ℕ) (ls : List ℕ) → among x (without x ls) ≡ false
 among-gone x [] = refl
-among-gone x (y ∷ ls) = bool-all
-    (λ b. eqb x y ≡ b → among x (cond b (without x ls) (y ∷ without x ls)) ≡ false) (eqb x y)
+among-gone x (y ∷ ls) =
+    bool-all (λ b. eqb x y ≡ b → among x (cond b (without x ls) (y ∷ without x ls)) ≡ false) (eqb x y)
     (λ e r. among-gone x ls)
     (λ e r. ap (λ (b : Bool). b || among x (without x ls)) e ∙ among-gone x ls) refl
 
@@ -60,8 +60,8 @@ add-link-in l n w = cond-all (λ x. among l (x .links) ≡ true → (among l (w 
     (λ p q. inr (eqb-is l n q)) (sym (among-add l n (w .links)) ∙ e))
 
 pub add-link-more : (l n : ℕ) (w : Worker) → among l (w .links) ≡ true → among l (add-link n w .links) ≡ true
-add-link-more l n w a = cond-all
-    (λ x. among l (x .links) ≡ true) (among n (w .links)) w (set-links (w .links ++ (n ∷ [])) w) (λ h. a)
+add-link-more l n w a =
+    cond-all (λ x. among l (x .links) ≡ true) (among n (w .links)) w (set-links (w .links ++ (n ∷ [])) w) (λ h. a)
     (λ h. among-add l n (w .links) ∙ ap (λ (b : Bool). b || eqb l n) a)
 
 pub add-link-new : (n : ℕ) (w : Worker) → among n (add-link n w .links) ≡ true

@@ -1,5 +1,5 @@
--- No program that is read comes to where nothing is meant: every move keeps all controls and frames good, that is, their
--- names are bound and their operations have as many operands as they take; and what is good is never stuck.
+-- No program that is read comes to where nothing is meant: every move keeps all controls and frames good, that is,
+-- their names are bound and their operations have as many operands as they take; and what is good is never stuck.
 use mathlib.Core.Path.{_≡_, sym, subst}
 use mathlib.Core.List.{List, [], _∷_, _++_}
 use mathlib.Core.Option.{some, none}
@@ -68,8 +68,8 @@ entered-good g m n f vs c h e =
     let fs = subst (OnSome Good-functions) (r .2) (functions-of-good g m n h) in
     let fn = subst (OnSome (λ (f : Function). Good-body (f .params) (f .body) × (length (f .params) ≡ length vs)))
     (r .3) (function-of-good (r .0) f (length vs) fs) in
-    subst Good-control (r .4) (subst
-    (λ (ys : List Name). Good-body ys (r .1 .body)) (sym (names-of-params (r .1 .params) vs (fn .1))) (fn .0))
+    subst Good-control (r .4) (
+    subst (λ (ys : List Name). Good-body ys (r .1 .body)) (sym (names-of-params (r .1 .params) vs (fn .1))) (fn .0))
 
 module _ (g : Program) (gd : Good-program g) (s : System) (u : Apart (s .workers)) where
   abbrev Meant : Outcome → Type 0
@@ -210,8 +210,8 @@ move-good g gd s tick u h = tick-all Good-system ⊥ s (λ t l. h)
 
 first-good : (g : Program) (c : Control) → Good-program g → enter-function g (first-name g) 1 a-main [] ≡ some c →
     Good-system (at-first g c)
-first-good g c gd e q x d = subst
-    (λ (z : Worker). Good-control (z .control) × Good-frames (z .frames)) (find-only (first-worker c) x q d .1)
+first-good g c gd e q x d =
+    subst (λ (z : Worker). Good-control (z .control) × Good-frames (z .frames)) (find-only (first-worker c) x q d .1)
     (entered-good g (first-name g) 1 a-main [] c gd e, tt)
 
 pub reached-good : (g : Program) → Good-program g → (l : List Move) (s : System) → Reached g l s → Good-system s

@@ -64,8 +64,8 @@ code-before-change ws n f kp kc q x e =
     )
 
 pub add-link-keeps-code : (n : ℕ) → Keeps-code (add-link n)
-add-link-keeps-code n w = cond-all
-    (λ (x : Worker). (x .control ≡ w .control) × (x .frames ≡ w .frames)) (among n (w .links)) w
+add-link-keeps-code n w =
+    cond-all (λ (x : Worker). (x .control ≡ w .control) × (x .frames ≡ w .frames)) (among n (w .links)) w
     (set-links (w .links ++ (n ∷ [])) w) (λ h. (refl, refl)) (λ h. (refl, refl))
 
 pub effect-code : (PC : Control → Type 0) (g : Program) (s : System) (w : Scope) (me : ℕ) (t : System) →
@@ -79,8 +79,7 @@ effect-code PC g s w me t fr (spawned c f) q x e =
       | inl a ↦ inl (x, a, refl, refl)
       | inr a ↦ inr (
         subst (λ (z : Worker). PC (z .control)) (sym (a .1)) (fr c f),
-        ap
-            (λ (z : Worker). z .frames) (a .1),
+        ap (λ (z : Worker). z .frames) (a .1),
       )
     ]
 effect-code PC g s w me t fr (linked-gone p d f) q x e = inl (x, e, refl, refl)
@@ -98,7 +97,8 @@ effect-code PC g s w me t fr (named y) q x e = inl (x, e, refl, refl)
 effect-code PC g s w me t fr (took ms) q x e =
     inl (code-before-change (s .workers) me (set-mail ms) (λ y. refl) (λ y. (refl, refl)) q x e)
 
--- what a turn leads to: what the worker goes on with has the property, and so has what is new; ST stands for being stuck
+-- what a turn leads to: what the worker goes on with has the property, and so has what is new; ST stands for being
+-- stuck
 abbrev pub Onward : (Control → Type 0) → (List Frame → Type 0) → Type 0 → System → Outcome → Type 0
 Onward PC PK ST s (goes-on c k t) = PC c × PK k × As-before-or-new PC s t
 Onward PC PK ST s (leaves t) = Unit {0}

@@ -123,8 +123,7 @@ module _ (n : ℕ) (s : System) (i : Numbered s) where
   past-same t u a b c p = record {
     numbered = (
       subst Apart (sym a) (p .numbered .0),
-      λ q l. ap
-          (λ ws. find ws q) a ∙ p .numbered .1 q (omega arith),
+      λ q l. ap (λ ws. find ws q) a ∙ p .numbered .1 q (omega arith),
     );
     next = let h = p .next in omega arith;
     clock = c ∙ p .clock;

@@ -1,5 +1,5 @@
--- After finitely many steps without a move there is a move, unless all is quiet or a turn has no meaning: whoever stands
--- first in the queue can go on, and at the end of a round the clock can, or the next round begins.
+-- After finitely many steps without a move there is a move, unless all is quiet or a turn has no meaning: whoever
+-- stands first in the queue can go on, and at the end of a round the clock can, or the next round begins.
 use mathlib.Core.Path.{_≡_, refl, sym, ap, subst, _∙_}
 use mathlib.Core.Logic.{_⊎_, inl, inr}
 use mathlib.Core.Bool.{true, false, _&&_, not}
@@ -57,8 +57,8 @@ due-or-not s q = one (find (s .workers) q) refl
 pub quiet-now : (g : Program) (s : System) (k : ℕ) → Good g s (flush k) (round ∷ []) → s .signals ≡ [] →
     first-time (s .workers) ≡ none → quiet g s ≡ true
 quiet-now g s k i e f = ap (λ z. no-signals z &&
-    (not (any-can g s (s .workers)) && opt (first-time (s .workers)) true (λ t. leb t (s .clock)))) e ∙ ap
-    (λ z. not z && opt (first-time (s .workers)) true (λ t. leb t (s .clock)))
+    (not (any-can g s (s .workers)) && opt (first-time (s .workers)) true (λ t. leb t (s .clock)))) e
+    ∙ ap (λ z. not z && opt (first-time (s .workers)) true (λ t. leb t (s .clock)))
     (is-false (any-can g s (s .workers))
     (λ h. let r = somebody-can g s (s .workers) (i .numbered .0) (is-true (any-can g s (s .workers)) h) in
     nobody (r .0) (i .exact .all (r .0) (r .1, r .2, r .3)))) ∙ ap (λ z. opt z true (λ t. leb t (s .clock))) f

@@ -1,5 +1,5 @@
--- The queue: places and members, what is kept of it, and what stands before what. It is no longer than there are workers
--- that can go on, and the end of the round.
+-- The queue: places and members, what is kept of it, and what stands before what. It is no longer than there are
+-- workers that can go on, and the end of the round.
 use mathlib.Core.Path.{_≡_, refl, sym, ap, subst, _∙_}
 use mathlib.Core.Logic.{_⊎_, inl, inr}
 use mathlib.Core.Bool.{true, cond}

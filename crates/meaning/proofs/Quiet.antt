@@ -1,5 +1,5 @@
--- Quiet is where no move can be made: no signal, nobody that can go on, and no time to wait for. Where nobody's time has
--- come and somebody waits for one, the clock can go on.
+-- Quiet is where no move can be made: no signal, nobody that can go on, and no time to wait for. Where nobody's time
+-- has come and somebody waits for one, the clock can go on.
 use mathlib.Core.Path.{_≡_, refl, sym, ap, subst, _∙_}
 use mathlib.Core.Bool.{Bool, true, false, _&&_, _||_, not, cond}
 use mathlib.Core.List.{List, [], _∷_}
@@ -98,8 +98,7 @@ delivers s (x ∷ gs) h = opt-all (λ r. (u : System) × (r ≡ is u)) (find (s 
 -- what is not quiet has a move
 pub some-move : (g : Program) → Good-program g → (s : System) → Sound s → Good-system s → quiet g s ≡ false →
     (m : Move) × (u : System) × (move g s m ≡ is u)
-some-move g gd s sd wf h = bool-all
-    (λ a. no-signals (s .signals) ≡ a →
+some-move g gd s sd wf h = bool-all (λ a. no-signals (s .signals) ≡ a →
     (a && (not (any-can g s (s .workers)) && opt (first-time (s .workers)) true (λ t. leb t (s .clock)))) ≡ false →
     (m : Move) × (u : System) × (move g s m ≡ is u)) (no-signals (s .signals))
     (λ a i d. bool-all (λ b. any-can g s (s .workers) ≡ b →

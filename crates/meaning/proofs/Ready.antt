@@ -1,5 +1,5 @@
--- Whether a worker can go on depends on its control, its mail and the clock alone; more mail and a later clock take it
--- from nobody.
+-- Whether a worker can go on depends on its control, its mail and the clock alone; more mail and a later clock take
+-- it from nobody.
 use mathlib.Core.Path.{_≡_, refl, sym, _∙_, ap}
 use mathlib.Core.Bool.{Bool, true, false, cond}
 use mathlib.Core.List.{List, [], _∷_, _++_}
@@ -62,8 +62,8 @@ can-is g s me = turn-with-ready g s me (me .control)
 
 pub can-same : (g : Program) (s t : System) (w x : Worker) → t .clock ≡ s .clock → x .control ≡ w .control →
     x .mail ≡ w .mail → can g t x ≡ can g s w
-can-same g s t w x e c m = can-is g t x ∙ ap (λ z. ready z (x .control) (x .mail)) e ∙ ap
-    (λ z. ready (s .clock) z (x .mail)) c ∙ ap (λ z. ready (s .clock) (w .control) z) m ∙ sym (can-is g s w)
+can-same g s t w x e c m = can-is g t x ∙ ap (λ z. ready z (x .control) (x .mail)) e
+    ∙ ap (λ z. ready (s .clock) z (x .mail)) c ∙ ap (λ z. ready (s .clock) (w .control) z) m ∙ sym (can-is g s w)
 
 abbrev pub has : {A : Type 0} → Option A → Bool
 has o = opt o false (λ x. true)

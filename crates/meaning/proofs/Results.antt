@@ -1,5 +1,5 @@
--- What holds of the results of moves: of a turn by its view, of a signal by how it is taken, of the clock; so of every
--- system that a program comes to, if it holds at first and every move keeps it.
+-- What holds of the results of moves: of a turn by its view, of a signal by how it is taken, of the clock; so of
+-- every system that a program comes to, if it holds at first and every move keeps it.
 use mathlib.Core.Path.{_≡_, subst, refl, sym, ap}
 use mathlib.Core.List.{List, [], _∷_, _++_}
 use mathlib.Core.Option.{some, Option, none}

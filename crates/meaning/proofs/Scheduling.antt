@@ -21,8 +21,8 @@ use Rattle.meaning.proofs.Results.{moves-append}
 no-meaning-next : (g : Program) (b s : System) (l : List Move) (m : Mode) (es : List Entry) (n : ℕ) →
     So-far g b l s m es → move g s (turn n) ≡ no-meaning → moves g b (l ++ (turn n ∷ [])) ≡ no-meaning
 no-meaning-next g b s l m es n a e =
-    moves-append g b l (turn n ∷ []) ∙ ap (λ o. on-is o (λ t. moves g t (turn n ∷ []))) (so-far-fair a .0) ∙ ap
-    (λ o. on-is o (λ t. moves g t [])) e
+    moves-append g b l (turn n ∷ []) ∙ ap (λ o. on-is o (λ t. moves g t (turn n ∷ []))) (so-far-fair a .0)
+    ∙ ap (λ o. on-is o (λ t. moves g t [])) e
 
 program-goes-on : (t : List ℕ) (g : Program) (b s : System) (l : List Move) (m : Mode) (es : List Entry) →
     Reads t g → begin g ≡ some b → So-far g b l s m es → Budget s m → Soon g s m es ⊎ (quiet g s ≡ true)

@@ -52,12 +52,11 @@ end-old-spares : (us : List Worker) (x : Name) (n : ℕ) (s : System) (q : ℕ) 
 end-old-spares [] x n s q a h = refl
 end-old-spares (u ∷ us) x n s q a h = elim (equal-or-not (u .pid) q) [
   | inl e ↦ end-old-spares us x n (cond (old x n u) (ended s u (v-atom a-old)) s) q (a .1)
-      (λ w f. absurd (none-some (sym (find-apart u us q a e) ∙ f))) ∙ ap
-      (λ (t : System). find (t .workers) q)
+      (λ w f. absurd (none-some (sym (find-apart u us q a e) ∙ f))) ∙ ap (λ (t : System). find (t .workers) q)
       (cond-false (old x n u) (ended s u (v-atom a-old)) s (h u (find-here u us q e)))
   | inr d ↦ end-old-spares us x n (cond (old x n u) (ended s u (v-atom a-old)) s) q (a .1)
-      (λ w f. h w (find-there u us q d ∙ f)) ∙ cond-all
-      (λ (t : System). find (t .workers) q ≡ find (s .workers) q) (old x n u) (ended s u (v-atom a-old)) s
+      (λ w f. h w (find-there u us q d ∙ f))
+      ∙ cond-all (λ (t : System). find (t .workers) q ≡ find (s .workers) q) (old x n u) (ended s u (v-atom a-old)) s
       (λ i. find-gone-other (s .workers) (u .pid) q (λ r. d (sym r))) (λ i. refl)
 ]
 
@@ -67,10 +66,9 @@ end-old-ends [] x n s q w a b e o = absurd (none-some e)
 end-old-ends (u ∷ us) x n s q w a b e o = elim (equal-or-not (u .pid) q) [
   | inl i ↦ let z : u ≡ w = some-is (sym (find-here u us q i) ∙ e) in
       end-old-spares us x n (cond (old x n u) (ended s u (v-atom a-old)) s) q (a .1)
-      (λ v f. absurd (none-some (sym (find-apart u us q a i) ∙ f))) ∙ ap
-      (λ (t : System). find (t .workers) q)
-      (cond-true (old x n u) (ended s u (v-atom a-old)) s (ap (old x n) z ∙ o)) ∙ subst
-      (λ (j : ℕ). find (gone (s .workers) (u .pid)) j ≡ none) i (find-gone-same (s .workers) (u .pid) b)
+      (λ v f. absurd (none-some (sym (find-apart u us q a i) ∙ f))) ∙ ap (λ (t : System). find (t .workers) q)
+      (cond-true (old x n u) (ended s u (v-atom a-old)) s (ap (old x n) z ∙ o))
+      ∙ subst (λ (j : ℕ). find (gone (s .workers) (u .pid)) j ≡ none) i (find-gone-same (s .workers) (u .pid) b)
   | inr d ↦ end-old-ends us x n (cond (old x n u) (ended s u (v-atom a-old)) s) q w (a .1)
       (cond-all (λ (t : System). Apart (t .workers)) (old x n u) (ended s u (v-atom a-old)) s
       (λ i. apart-gone (s .workers) (u .pid) b) (λ i. b)) (sym (find-there u us q d) ∙ e) o
@@ -112,8 +110,8 @@ swapped-loads-another s x n e d =
 
 pub told-each : (p q : ℕ) (r : Value) (ls : List ℕ) → among q ls ≡ true → Told-of q p r (told p r ls)
 told-each p q r [] a = no-clash a refl
-told-each p q r (l ∷ ls) a = bool-all
-    (λ b. eqb q l ≡ b → (b || among q ls) ≡ true → Told-of q p r (told p r (l ∷ ls))) (eqb q l)
+told-each p q r (l ∷ ls) a =
+    bool-all (λ b. eqb q l ≡ b → (b || among q ls) ≡ true → Told-of q p r (told p r (l ∷ ls))) (eqb q l)
     (λ h i d. subst (λ (z : ℕ). Told-of q p r (record { to = z; from = p; reason = r } ∷ told p r ls)) (eqb-is q l h)
     this-one)
     (λ h i d. a-later (told-each p q r ls d)) refl a
@@ -131,8 +129,7 @@ pub end-old-tells : (us : List Worker) (x : Name) (n : ℕ) (s : System) →
     × ((p q : ℕ) (w : Worker) → find us p ≡ some w → old x n w ≡ true → among q (w .links) ≡ true →
     Told-of q p (v-atom a-old) gs)
 end-old-tells [] x n s = ([], sym (append-nil (s .signals)), λ p q w e h a. absurd (none-some e))
-end-old-tells (u ∷ us) x n s = bool-all
-    (λ b. old x n u ≡ b → (gs : List Signal)
+end-old-tells (u ∷ us) x n s = bool-all (λ b. old x n u ≡ b → (gs : List Signal)
     × (end-old us x n (cond b (ended s u (v-atom a-old)) s) .signals ≡ s .signals ++ gs)
     × ((p q : ℕ) (w : Worker) → find (u ∷ us) p ≡ some w → old x n w ≡ true → among q (w .links) ≡ true →
     Told-of q p (v-atom a-old) gs)) (old x n u)
@@ -140,8 +137,8 @@ end-old-tells (u ∷ us) x n s = bool-all
     let mine = told (u .pid) (v-atom a-old) (u .links) in (
       mine ++ r .0,
       r .1 ∙ append-assoc (s .signals) mine (r .0),
-      λ p q w e o a. cond-all
-          (λ y. y ≡ some w → Told-of q p (v-atom a-old) (mine ++ r .0)) (eqb (u .pid) p) (some u) (find us p)
+      λ p q w e o a.
+          cond-all (λ y. y ≡ some w → Told-of q p (v-atom a-old) (mine ++ r .0)) (eqb (u .pid) p) (some u) (find us p)
           (λ c d. told-left p q (v-atom a-old) mine (r .0)
           (subst (λ (z : ℕ). Told-of q p (v-atom a-old) (told z (v-atom a-old) (u .links)))
           (sym (eqb-is (u .pid) p c)) (told-each p q (v-atom a-old) (u .links)
@@ -151,8 +148,8 @@ end-old-tells (u ∷ us) x n s = bool-all
     (λ h i. let r = end-old-tells us x n s in (
       r .0,
       r .1,
-      λ p q w e o a. cond-all
-          (λ y. y ≡ some w → Told-of q p (v-atom a-old) (r .0)) (eqb (u .pid) p) (some u) (find us p)
+      λ p q w e o a.
+          cond-all (λ y. y ≡ some w → Told-of q p (v-atom a-old) (r .0)) (eqb (u .pid) p) (some u) (find us p)
           (λ c d. no-clash o (sym (ap (old x n) (some-is d)) ∙ h)) (λ c d. r .2 p q w d o a) e,
     )) refl
 

@@ -1,4 +1,5 @@
--- The first time for which somebody waits: somebody waits for it, and nobody for an earlier one. To it the clock goes.
+-- The first time for which somebody waits: somebody waits for it, and nobody for an earlier one. To it the clock
+-- goes.
 use mathlib.Core.Path.{_≡_, refl, sym, ap, subst, _∙_}
 use mathlib.Core.Bool.{Bool, not, cond}
 use mathlib.Core.List.{List, [], _∷_}

@@ -36,8 +36,7 @@ swap-told s x m p q w y yo u e a gn =
     (λ h i. (
       r .0,
       (s .signals, r .1, inl refl),
-      subst
-          (λ (z : Value). Told-of q p z (r .0)) (sym yo) (r .2 p q w e h a),
+      subst (λ (z : Value). Told-of q p z (r .0)) (sym yo) (r .2 p q w e h a),
     ))
     (λ h i. absurd (none-some (sym gn ∙ swapped-spares s x m p w u e h))) refl
 
@@ -52,8 +51,7 @@ end-told s me r p q w hs sg fm fp a gn =
     let z : me ≡ w = some-is (sym fm ∙ subst (λ (j : ℕ). find (s .workers) j ≡ some w) i fp) in (
       told (me .pid) r (me .links),
       ap (λ (y : List Signal). y ++ told (me .pid) r (me .links)) sg,
-      subst
-          (λ (j : ℕ). Told-of q p r (told j r (me .links))) i
+      subst (λ (j : ℕ). Told-of q p r (told j r (me .links))) i
           (told-each p q r (me .links) (ap (λ (y : Worker). among q (y .links)) z ∙ a)),
       z,
     ))
@@ -65,8 +63,7 @@ swap-reason : (s : System) (n p : ℕ) (me w : Worker) → me .pid ≡ n → fin
     reason-of s (turn n) w ≡ v-atom a-old
 swap-reason s n p me w pn fm fp wo =
     cond-all (λ (y : Value). y ≡ v-atom a-old) (eqb n (w .pid)) (end-reason (w .control) (w .frames)) (v-atom a-old)
-    (λ h. let z : me ≡ w = some-is (sym fm ∙ subst
-    (λ (j : ℕ). find (s .workers) j ≡ some w)
+    (λ h. let z : me ≡ w = some-is (sym fm ∙ subst (λ (j : ℕ). find (s .workers) j ≡ some w)
     (sym (find-pid (s .workers) p w fp) ∙ sym (eqb-is n (w .pid) h) ∙ sym pn) fp) in
     subst (λ (v : Worker). end-reason (v .control) (v .frames) ≡ v-atom a-old) z wo) (λ h. refl)
 
@@ -108,8 +105,7 @@ signal-told s p q w e a = deliver-all (Told-if-gone s p q (oldest-reason (s .sig
     (subst (λ (j : ℕ). find (s .workers) j ≡ some v) (sym (find-pid (s .workers) (g .to) v h)) h) e a gn in (
       z .0,
       (hs, z .1, inr (g, i)),
-      subst
-          (λ (y : Value). Told-of q p y (z .0)) (sym (ap oldest-reason i)) (z .2),
+      subst (λ (y : Value). Told-of q p y (z .0)) (sym (ap oldest-reason i)) (z .2),
     )))
 
 pub linked-told : Linked-told

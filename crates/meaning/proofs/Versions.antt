@@ -1,5 +1,5 @@
--- Of each module at most two versions are at work, the current one and the one before it: every scope is in that span.
--- Calls enter the current version or stay in their own, and a swap ends whatever would fall behind.
+-- Of each module at most two versions are at work, the current one and the one before it: every scope is in that
+-- span. Calls enter the current version or stay in their own, and a swap ends whatever would fall behind.
 use mathlib.Core.Path.{_≡_, refl, sym, ap, subst, _∙_}
 use mathlib.Core.Logic.{inl}
 use mathlib.Core.Bool.{Bool, true, false, _&&_, not, cond}
@@ -65,8 +65,8 @@ span-after-swap : (ls : List Loaded) (x : Name) (m : ℕ) (h : Name) (v : ℕ) �
 span-after-swap ls x m h v e sp o n d =
     bool-all (λ b. same h x ≡ b → (b && ltb v m) ≡ false → (n ≤ v + 1) × (v ≤ n)) (same h x)
     (λ i j f. let z = same-is h x (T-of i) in let now = current-now-loaded ls x (m + 1) m e in
-    let next : m + 1 ≡ n = some-is (sym now ∙ subst
-    (λ (u : Name). current (now-loaded ls x (m + 1)) u ≡ some n) z d) in
+    let next : m + 1 ≡ n = some-is (sym now
+    ∙ subst (λ (u : Name). current (now-loaded ls x (m + 1)) u ≡ some n) z d) in
     let lo : m ≤ v = nltb→le v m (subst (λ (b : Bool). T (not b)) (sym f) tt) in
     let hi = sp m (subst (λ (u : Name). current ls u ≡ some m) (sym z) e) in (omega arith, omega arith))
     (λ i j f. sp n (sym (current-other ls x h (m + 1) i) ∙ d)) refl o
@@ -203,8 +203,7 @@ ones-current (l ∷ ls) x n h e =
 
 first-spans : (g : Program) (c : Control) → enter-function g (first-name g) 1 a-main [] ≡ some c →
     Spans (at-first g c)
-first-spans g c e q x d = subst
-    (λ (z : Worker). In-control (Span (first-versions g [])) (z .control)
+first-spans g c e q x d = subst (λ (z : Worker). In-control (Span (first-versions g [])) (z .control)
     × In-frames (Span (first-versions g [])) (z .frames)) (find-only (first-worker c) x q d .1) (
       entered-in (Span (first-versions g [])) g (first-name g) 1 a-main [] c e
           (λ n i. let z = ones-current (first-versions g []) (first-name g) n (ones-first-versions g [] tt) i in

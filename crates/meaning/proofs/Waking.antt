@@ -1,5 +1,5 @@
--- Who becomes able by what a turn does: whoever gets a message that it waits for, and whoever begins, nobody else; and
--- whom a turn ends. These laws are for those who implement the scheduler.
+-- Who becomes able by what a turn does: whoever gets a message that it waits for, and whoever begins, nobody else;
+-- and whom a turn ends. These laws are for those who implement the scheduler.
 use mathlib.Core.Path.{_≡_, refl, sym, ap, subst, _∙_}
 use mathlib.Core.Logic.{_⊎_, inl, inr}
 use mathlib.Core.Bool.{Bool, true, false}
@@ -119,8 +119,8 @@ module _ (g : Program) (n : ℕ) (s : System) (i : Numbered s) (c : Control) (f 
           (λ d. b (sym d)) ∙ sym e
       others q b (inr (w, e)) = find-append-some (s .workers) (new-worker ∷ []) q w e ∙ sym e
 
--- who waits in vain has no message to take, and its time has not come: then a new message is seen by itself, and so is
--- time
+-- who waits in vain has no message to take, and its time has not come: then a new message is seen by itself, and so
+-- is time
 has-not : {A : Type 0} (o : Option A) → has o ≡ false → o ≡ none
 has-not none h = refl
 has-not (some x) h = no-clash refl h
@@ -159,8 +159,7 @@ mail-wakes t cs u w ms v h = go (take-first cs (w .vars) (ms ++ (v ∷ [])))
 
 pub time-wakes : (t t′ : ℕ) (cs : Clauses) (u : Until) (w : Scope) (ms : List Value) →
     ready t (wait cs u w) ms ≡ false → ready t′ (wait cs u w) ms ≡ due t′ u
-time-wakes t t′ cs u w ms h = ap
-    (λ o. opt o (due t′ u) (λ x. true))
+time-wakes t t′ cs u w ms h = ap (λ o. opt o (due t′ u) (λ x. true))
     (has-not (take-first cs (w .vars) ms) (waits-in-vain (take-first cs (w .vars) ms) (due t u) h .0))
 
 abbrev pub Spares : ℕ → System → System → Type 0
@@ -211,8 +210,8 @@ module _ (g : Program) (n : ℕ) (s : System) (p : ℕ) (v : Value) (f : Worker 
       go false r = r
 
   can-after-message : can g (sent-and-changed s n p v f) (add-mail v w) ≡ has (choose cs v (o .vars))
-  can-after-message = can-is g (sent-and-changed s n p v f) (add-mail v w) ∙ ap
-      (λ c. ready (s .clock) c (w .mail ++ (v ∷ []))) h ∙ mail-wakes (s .clock) cs u o (w .mail) v idle-not-ready
+  can-after-message = can-is g (sent-and-changed s n p v f) (add-mail v w)
+      ∙ ap (λ c. ready (s .clock) c (w .mail ++ (v ∷ []))) h ∙ mail-wakes (s .clock) cs u o (w .mail) v idle-not-ready
 
   pub message-wakes : has (choose cs v (o .vars)) ≡ true → Woken g n s (sent-and-changed s n p v f) (worker p ∷ [])
   message-wakes y = woken-by-message g n s p v f k d
