@@ -104,8 +104,8 @@ Nearer-by m x n l m′ es′ = (k : ℕ) × At x k es′ × (length l + moves-un
 step-nearer : (g : Program) (s : System) {m m′ : Mode} {es es′ : List Entry} {l : List Move} {s′ : System}
     (x : Entry) (n : ℕ) → Step g s m es l s′ m′ es′ → Stays s′ x → At x n es →
     Nearer-by m x n l m′ es′ ⊎ Served x l s m′
-step-nearer g s {s′ = s′} x n (by-turn {p = p} {k = k} {m = m′} {es = es} {fs = fs} new e r rest-after) c a =
-    inl (go (kept x n c r a) rest-after)
+step-nearer g s {s′ = s′} x n (by-turn {p = p} {k = k} {m = m′} {es = es} {fs = fs} new e r over) c a =
+    inl (go (kept x n c r a) over)
   where
     go : {m′ : Mode} → (j : ℕ) × (j ≤ n) × At x j fs → After p k m′ →
         Nearer-by (serve p (suc k)) x n (turn p ∷ []) m′ (fs ++ new)
@@ -137,7 +137,7 @@ step-nearer g s x n (by-pop {k = k} {p = p} t {es = es} i h) c a = go (At-cases 
 -- while a worker is served, nobody else moves
 serving-turns : {g : Program} {s : System} {m m′ : Mode} {es es′ : List Entry} {l : List Move} {s′ : System}
     (q k : ℕ) → Step g s m es l s′ m′ es′ → m ≡ serve q k → l ≡ turn q ∷ []
-serving-turns q k (by-turn new e r rest-after) h = cc
+serving-turns q k (by-turn new e r over) h = cc
 serving-turns q k (by-signal new e r) h = cc
 serving-turns q k (by-tick new i e) h = cc
 serving-turns q k (by-round i f) h = cc
@@ -238,7 +238,7 @@ Signal-sooner s m l m′ = (length l + until-signal m′ ≤ until-signal m) ⊎
 
 step-signal-sooner : {g : Program} {s : System} {m m′ : Mode} {es es′ : List Entry} {l : List Move} {s′ : System} →
     Step g s m es l s′ m′ es′ → Signal-sooner s m l m′
-step-signal-sooner {s = s} (by-turn {p = p} {k = k} new e r rest-after) = go rest-after
+step-signal-sooner {s = s} (by-turn {p = p} {k = k} new e r over) = go over
   where
     go : {m′ : Mode} → After p k m′ → Signal-sooner s (serve p (suc k)) (turn p ∷ []) m′
     go same-slice = inl (omega arith)

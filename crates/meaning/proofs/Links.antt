@@ -320,8 +320,9 @@ turned-sound g s n me o e (turn-swapped-out x m d f wo) h = swapped-sound s x m 
 turned-sound g s n me o e turn-stuck h = tt
 
 signal-sound : (s : System) (g : Signal) (w : Worker) → Sound s → Sound (take-signal s g w)
-signal-sound s g w h = take-signal-all Sound s g w (change-sound (s .workers) (w .pid) (s .next) _ (λ x. refl)
-    (λ x. refl) h) (cut-sound (s .workers) (w .pid) (g .from) (s .next) h)
+signal-sound s g w h = take-signal-all Sound s g w
+    (change-sound (s .workers) (w .pid) (s .next) _ (λ x. refl) (λ x. refl) h)
+    (cut-sound (s .workers) (w .pid) (g .from) (s .next) h)
     (gone-sound (s .workers) (w .pid) (s .next) h)
 
 pub move-sound : (g : Program) (s : System) (m : Move) → Sound s → OnIs Sound (move g s m)

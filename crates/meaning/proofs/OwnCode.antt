@@ -155,13 +155,12 @@ module _ (PC : Control → Type 0) (PK : List Frame → Type 0) where
   -- signals and the clock change no code
   pub signal-every : (s : System) (g : Signal) (w : Worker) → Apart (s .workers) → Every-worker PC PK (s .workers) →
       Every-worker PC PK (take-signal s g w .workers)
-  signal-every s g w u h = take-signal-all
-      (λ t. Every-worker PC PK (t .workers)) s g w (change-every (s .workers) (w .pid) (add-mail _) (λ x. refl)
-      (λ x. (refl, refl)) h) (change-every (change (s .workers) (w .pid) (cut-link (g .from))) (g .from)
-      (cut-link (w .pid)) (λ x. refl)
-      (λ x. (refl, refl)) (change-every (s .workers) (w .pid) (cut-link (g .from)) (λ x. refl)
-      (λ x. (refl, refl)) h)) (within-every (gone (s .workers) (w .pid)) (s .workers)
-      (gone-within (s .workers) (w .pid) u) h)
+  signal-every s g w u h = take-signal-all (λ t. Every-worker PC PK (t .workers)) s g w
+      (change-every (s .workers) (w .pid) (add-mail _) (λ x. refl) (λ x. (refl, refl)) h)
+      (change-every (change (s .workers) (w .pid) (cut-link (g .from))) (g .from) (cut-link (w .pid)) (λ x. refl)
+      (λ x. (refl, refl))
+      (change-every (s .workers) (w .pid) (cut-link (g .from)) (λ x. refl) (λ x. (refl, refl)) h))
+      (within-every (gone (s .workers) (w .pid)) (s .workers) (gone-within (s .workers) (w .pid) u) h)
 
 -- the scope in which a control or a frame is at work, if it is code
 abbrev pub control-scope : Control → Option Scope

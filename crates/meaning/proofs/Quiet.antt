@@ -1,12 +1,13 @@
 -- Quiet is where no move can be made: no signal, nobody that can go on, and no time to wait for. Where nobody's time
 -- has come and somebody waits for one, the clock can go on.
+use mathlib.Core.Logic.{_⊎_, inl, inr}
 use mathlib.Core.Path.{_≡_, refl, sym, ap, subst, _∙_}
 use mathlib.Core.Bool.{Bool, true, false, _&&_, _||_, not, cond}
 use mathlib.Core.List.{List, [], _∷_}
 use mathlib.Core.Option.{Option, some, none}
 use Prim.Native.Nat.{ℕ}
 use native.Mathlib.Omega.{arith}
-use lib.Dec.{eqb, ltb, leb, T, leb→le, ltb→lt, lt→ltb, nleb→lt}
+use lib.Dec.{eqb, ltb, leb, T, leb→le, ltb→lt, nleb→lt}
 use Rattle.meaning.specs.Basics.{opt}
 use Rattle.meaning.specs.Syntax.{Program}
 use Rattle.meaning.specs.System.{Worker, Signal, System, with-signals, find, on-worker, set-control, with-clock}
@@ -15,9 +16,9 @@ use Rattle.meaning.specs.Turns.{Outcome, goes-on, leaves, stuck, turn-of, can}
 use Rattle.meaning.specs.Moves.{Move, turn, signal, tick, Result, is, not-allowed, settle, take-signal, deliver}
 use Rattle.meaning.specs.Moves.{any-can, first-time, move, no-signals, quiet}
 use Rattle.meaning.specs.Promise.{Quiet-means, Clock-goes}
+use Rattle.meaning.proofs.Splits.{and-false, not-false, some-or-none, is-true, bool-all, T-of, no-clash, cond-all}
+use Rattle.meaning.proofs.Splits.{opt-all, some-is, none-some, or-false, and-true, not-true}
 use Rattle.meaning.proofs.Finding.{find-behind, find-here}
-use Rattle.meaning.proofs.Splits.{T-of, is-true, no-clash, cond-all, opt-all, cond-true, bool-all, some-is, none-some}
-use Rattle.meaning.proofs.Splits.{or-false, and-true, not-true}
 use Rattle.meaning.proofs.Links.{Sound, reached-sound}
 use Rattle.meaning.proofs.NeverStuck.{Good-system, move-good, reached-good}
 use Rattle.meaning.proofs.Results.{OnResult, turn-found}
@@ -53,84 +54,107 @@ can-outcome (some x) h = (x, refl)
 not-allowed-is : {A : Type 0} {u : System} → not-allowed ≡ is u → A
 not-allowed-is {A} {u} e = absurd (subst (λ (r : Result). OnResult (λ t. ⊥) (Unit {0}) r) e tt)
 
+-- nobody waits for a later time
+abbrev no-later-time : System → Bool
+no-later-time s = opt (first-time (s .workers)) true (λ t. leb t (s .clock))
+
 quiet-no-move : (g : Program) (s : System) → quiet g s ≡ true → (m : Move) (u : System) → move g s m ≡ is u → ⊥
 quiet-no-move g s h m u e = go m e
   where
-    a : (no-signals (s .signals) ≡ true)
-        × ((not (any-can g s (s .workers)) && opt (first-time (s .workers)) true (λ t. leb t (s .clock))) ≡ true)
-    a = and-true (no-signals (s .signals)) (not (any-can g s (s .workers)) && opt (first-time (s .workers)) true
-        (λ t. leb t (s .clock))) h
+    parts : (no-signals (s .signals) ≡ true) × ((not (any-can g s (s .workers)) && no-later-time s) ≡ true)
+    parts = and-true (no-signals (s .signals)) (not (any-can g s (s .workers)) && no-later-time s) h
 
-    b : (not (any-can g s (s .workers)) ≡ true) × (opt (first-time (s .workers)) true (λ t. leb t (s .clock)) ≡ true)
-    b = and-true (not (any-can g s (s .workers))) (opt (first-time (s .workers)) true (λ t. leb t (s .clock))) (a .1)
+    idle : (not (any-can g s (s .workers)) ≡ true) × (no-later-time s ≡ true)
+    idle = and-true (not (any-can g s (s .workers))) (no-later-time s) (parts .1)
 
-    ds : (gs : List Signal) → no-signals gs ≡ true → deliver s gs ≡ is u → ⊥
-    ds [] i d = not-allowed-is d
-    ds (x ∷ gs) i d = no-clash i refl
+    no-delivery : (gs : List Signal) → no-signals gs ≡ true → deliver s gs ≡ is u → ⊥
+    no-delivery [] i d = not-allowed-is d
+    no-delivery (x ∷ gs) i d = no-clash i refl
 
-    tk : (o : Option ℕ) → opt o true (λ t. leb t (s .clock)) ≡ true → opt o not-allowed
-        (λ t. cond (ltb (s .clock) t) (is (with-clock s t)) not-allowed) ≡ is u → ⊥
-    tk none i d = not-allowed-is d
-    tk (some t) i d = cond-all (λ r. r ≡ is u → ⊥) (ltb (s .clock) t) (is (with-clock s t)) not-allowed
-        (λ j c. let y = leb→le t (s .clock) (T-of i) in
-        let z = ltb→lt (s .clock) t (T-of j) in omega arith) (λ j c. not-allowed-is c) d
+    no-tick : (o : Option ℕ) → opt o true (λ t. leb t (s .clock)) ≡ true →
+        opt o not-allowed (λ t. cond (ltb (s .clock) t) (is (with-clock s t)) not-allowed) ≡ is u → ⊥
+    no-tick none i d = not-allowed-is d
+    no-tick (some t) i d = cond-all (λ r. r ≡ is u → ⊥) (ltb (s .clock) t) (is (with-clock s t)) not-allowed
+        (λ j c. let y = leb→le t (s .clock) (T-of i) in let z = ltb→lt (s .clock) t (T-of j) in omega arith)
+        (λ j c. not-allowed-is c) d
+
+    no-turn : (n : ℕ) (w : Worker) → find (s .workers) n ≡ some w → (o : Option Outcome) → turn-of g s w ≡ o →
+        opt o not-allowed (settle n) ≡ is u → ⊥
+    no-turn n w f none i d = not-allowed-is d
+    no-turn n w f (some o) i d = no-clash (ap (λ (y : Option Outcome). opt y false (λ z. true)) i)
+        (nobody-can g s (s .workers) n w (not-true (any-can g s (s .workers)) (idle .0)) f)
 
     go : (m : Move) → move g s m ≡ is u → ⊥
     go (turn n) d = opt-all (λ r. r ≡ is u → ⊥) (find (s .workers) n) not-allowed
         (λ w. opt (turn-of g s w) not-allowed (settle n)) (λ i c. not-allowed-is c)
-        (λ w i. opt-all (λ r. r ≡ is u → ⊥) (turn-of g s w) not-allowed (settle n) (λ j c. not-allowed-is c)
-        (λ o j c. no-clash (ap (λ (y : Option Outcome). opt y false (λ z. true)) j)
-        (nobody-can g s (s .workers) n w (not-true (any-can g s (s .workers)) (b .0)) i))) d
-    go signal d = ds (s .signals) (a .0) d
-    go tick d = tk (first-time (s .workers)) (b .1) d
+        (λ w i c. no-turn n w i (turn-of g s w) refl c) d
+    go signal d = no-delivery (s .signals) (parts .0) d
+    go tick d = no-tick (first-time (s .workers)) (idle .1) d
+
+-- what is not quiet has a move: a signal, somebody's turn, or the clock's
+abbrev Has-move : Program → System → Type 0
+Has-move g s = (m : Move) × (u : System) × (move g s m ≡ is u)
+
+signal-moves : (g : Program) (s : System) → no-signals (s .signals) ≡ false → Has-move g s
+signal-moves g s h = let y = go (s .signals) h in (signal, y .0, y .1)
+  where
+    go : (gs : List Signal) → no-signals gs ≡ false → (u : System) × (deliver s gs ≡ is u)
+    go [] h = no-clash refl h
+    go (x ∷ gs) h = opt-all (λ r. (u : System) × (r ≡ is u)) (find (s .workers) (x .to)) (is (with-signals s gs))
+        (λ w. is (take-signal (with-signals s gs) x w)) (λ e. (with-signals s gs, refl))
+        (λ w e. (take-signal (with-signals s gs) x w, refl))
 
 good-settles : (n : ℕ) (o : Outcome) → OnResult Good-system ⊥ (settle n o) → (u : System) × (settle n o ≡ is u)
 good-settles n (goes-on c k t) h = (on-worker t n (set-control c k), refl)
 good-settles n (leaves t) h = (t, refl)
 good-settles n stuck h = absurd h
 
-delivers : (s : System) (gs : List Signal) → no-signals gs ≡ false → (u : System) × (deliver s gs ≡ is u)
-delivers s [] h = no-clash refl h
-delivers s (x ∷ gs) h = opt-all (λ r. (u : System) × (r ≡ is u)) (find (s .workers) (x .to)) (is (with-signals s gs))
-    (λ w. is (take-signal (with-signals s gs) x w)) (λ e. (with-signals s gs, refl))
-    (λ w e. (take-signal (with-signals s gs) x w, refl))
-
--- what is not quiet has a move
-pub some-move : (g : Program) → Good-program g → (s : System) → Sound s → Good-system s → quiet g s ≡ false →
-    (m : Move) × (u : System) × (move g s m ≡ is u)
-some-move g gd s sd wf h = bool-all (λ a. no-signals (s .signals) ≡ a →
-    (a && (not (any-can g s (s .workers)) && opt (first-time (s .workers)) true (λ t. leb t (s .clock)))) ≡ false →
-    (m : Move) × (u : System) × (move g s m ≡ is u)) (no-signals (s .signals))
-    (λ a i d. bool-all (λ b. any-can g s (s .workers) ≡ b →
-    (not b && opt (first-time (s .workers)) true (λ t. leb t (s .clock))) ≡ false →
-    (m : Move) × (u : System) × (move g s m ≡ is u)) (any-can g s (s .workers))
-    (λ b j f. let r = somebody-can g s (s .workers) (sd .apart) b in
+turn-moves : (g : Program) → Good-program g → (s : System) → Sound s → Good-system s →
+    any-can g s (s .workers) ≡ true → Has-move g s
+turn-moves g gd s sd good h =
+    let r = somebody-can g s (s .workers) (sd .apart) h in
     let o = can-outcome (turn-of g s (r .1)) (r .3) in
     let e = turn-settles g s (r .0) (r .1) (o .0) (r .2) (o .1) in
-    let y = good-settles (r .0) (o .0)
-    (subst (OnResult Good-system ⊥) e (move-good g gd s (turn (r .0)) (sd .apart) wf)) in
-    (turn (r .0), y .0, e ∙ y .1))
-    (λ b j f. let y = time (first-time (s .workers)) f in (tick, y .0, y .1)) refl d)
-    (λ a i d. let y = delivers s (s .signals) a in (signal, y .0, y .1)) refl h
+    let i = subst (OnResult Good-system ⊥) e (move-good g gd s (turn (r .0)) (sd .apart) good) in
+    let y = good-settles (r .0) (o .0) i in
+    (turn (r .0), y .0, e ∙ y .1)
+
+clock-moves : (g : Program) (s : System) → no-later-time s ≡ false → Has-move g s
+clock-moves g s h = go (some-or-none (first-time (s .workers)))
   where
-    time : (o : Option ℕ) → opt o true (λ t. leb t (s .clock)) ≡ false →
-        (u : System) × (opt o not-allowed (λ t. cond (ltb (s .clock) t) (is (with-clock s t)) not-allowed) ≡ is u)
-    time none f = no-clash refl f
-    time (some t) f = (
-      with-clock s t,
-      cond-true (ltb (s .clock) t) (is (with-clock s t)) not-allowed
-          (is-true (ltb (s .clock) t) (lt→ltb (s .clock) t
-          (nleb→lt t (s .clock) (subst (λ (b : Bool). T (not b)) (sym f) tt)))),
-    )
+    go : (first-time (s .workers) ≡ none) ⊎ ((t : ℕ) × (first-time (s .workers) ≡ some t)) → Has-move g s
+    go (inl e) = no-clash (ap (λ (o : Option ℕ). opt o true (λ t. leb t (s .clock))) e) h
+    go (inr (t, e)) =
+        let later : leb t (s .clock) ≡ false =
+        sym (ap (λ (o : Option ℕ). opt o true (λ t. leb t (s .clock))) e) ∙ h in (
+          tick,
+          with-clock s t,
+          tick-is g s t e
+              (nleb→lt t (s .clock) (subst (λ (b : Bool). T (not b)) (sym later) tt)),
+        )
+
+pub some-move : (g : Program) → Good-program g → (s : System) → Sound s → Good-system s → quiet g s ≡ false →
+    Has-move g s
+some-move g gd s sd good h = go
+    (and-false (no-signals (s .signals)) (not (any-can g s (s .workers)) && no-later-time s) h)
+  where
+    idle : (not (any-can g s (s .workers)) ≡ false) ⊎ (no-later-time s ≡ false) → Has-move g s
+    idle (inl a) = turn-moves g gd s sd good (not-false (any-can g s (s .workers)) a)
+    idle (inr a) = clock-moves g s a
+
+    go : (no-signals (s .signals) ≡ false) ⊎ ((not (any-can g s (s .workers)) && no-later-time s) ≡ false) →
+        Has-move g s
+    go (inl a) = signal-moves g s a
+    go (inr a) = idle (and-false (not (any-can g s (s .workers))) (no-later-time s) a)
 
 pub quiet-means : Quiet-means
-quiet-means t g l s rd r = (
-  quiet-no-move g s,
-  λ h. bool-all (λ b. quiet g s ≡ b → quiet g s ≡ true) (quiet g s)
-      (λ i j. i) (λ i j. let gd = reads-good t g rd in
-      let y = some-move g gd s (reached-sound g l s r) (reached-good g gd l s r) i in absurd (h (y .0) (y .1) (y .2)))
-      refl,
-)
+quiet-means t g l s rd r = (quiet-no-move g s, λ no-move. is-true (quiet g s) (true-if no-move))
+  where
+    true-if : ((m : Move) (u : System) → move g s m ≡ is u → ⊥) → T (quiet g s)
+    true-if no-move = bool-all (λ b. quiet g s ≡ b → T b) (quiet g s) (λ e i. tt)
+        (λ e i. let good = reads-good t g rd in
+        let y = some-move g good s (reached-sound g l s r) (reached-good g good l s r) e in
+        absurd (no-move (y .0) (y .1) (y .2))) refl
 
 pub clock-goes : Clock-goes
 clock-goes g l s q t w r e d later =
