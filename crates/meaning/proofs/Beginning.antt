@@ -20,6 +20,7 @@ use Rattle.meaning.specs.Moves.{settle, Move, turn, is, not-allowed, move, on-
 use Rattle.meaning.specs.Fair.{Could, Fair}
 use Rattle.meaning.specs.Scheduler.{Good, Due, first, So-far, Entry, round, worker, Mode, flush, here, Mem, Step}
 use Rattle.meaning.specs.Scheduler.{by-turn, by-signal, by-tick, by-round, by-pop, Steps, start, and-step}
+use Rattle.meaning.specs.Rounds.{Leads}
 use Rattle.meaning.proofs.Queue.{Mem-worker, At-none, Mem-cases, Mem-behind}
 use Rattle.meaning.proofs.Finding.{find-here, find-there, find-changed, find-pid, find-only}
 use Rattle.meaning.proofs.Fairness.{fair-always}
@@ -43,7 +44,7 @@ steps-moves {g} {s₀} (and-step {l = l} {x = x} a st i) =
     moves-append g s₀ l x ∙ ap (λ o. on-is o (λ t. moves g t x)) (steps-moves a) ∙ step-moves st
 
 pub one-more : {g : Program} {b : System} {l x : List Move} {s s′ : System} {m m′ : Mode} {es es′ : List Entry} →
-    So-far g b l s m es → Step g s m es x s′ m′ es′ × Good g s′ m′ es′ → So-far g b (l ++ x) s′ m′ es′
+    So-far g b l s m es → Leads g s m es x s′ m′ es′ → So-far g b (l ++ x) s′ m′ es′
 one-more a (st, i) = record { steps = and-step (a .steps) st (i .exact); first = a .first; good = i }
 
 pub so-far-fair : {g : Program} {b : System} {l : List Move} {s : System} {m : Mode} {es : List Entry} →

@@ -19,7 +19,7 @@ use Rattle.meaning.specs.System.{on-worker, set-mail, gone, Apart, swapped, wi
 use Rattle.meaning.specs.Turns.{Outcome, goes-on, stuck, error, gives, Chosen, Taken, choose, take-first, rebind}
 use Rattle.meaning.specs.Turns.{enter-function, perform, operands, evaluate, begin-body, wait-until, resume, unwind}
 use Rattle.meaning.specs.Turns.{timed-out, turn-with}
-use Rattle.meaning.specs.Moves.{Move, turn, signal, tick, settle, move, first-name}
+use Rattle.meaning.specs.Moves.{begin, moves, Move, turn, signal, tick, settle, move, first-name}
 use Rattle.meaning.specs.Bound.{bound-by}
 use Rattle.meaning.specs.Grammar.{count}
 use Rattle.meaning.specs.Promise.{Reached, Never-stuck}
@@ -214,18 +214,16 @@ first-good g c gd e q x d =
     subst (λ (z : Worker). Good-control (z .control) × Good-frames (z .frames)) (find-only (first-worker c) x q d .1)
     (entered-good g (first-name g) 1 a-main [] c gd e, tt)
 
-pub reached-good : (g : Program) → Good-program g → (l : List Move) (s : System) → Reached g l s → Good-system s
-reached-good g gd l s r = subst (OnResult (λ t. Sound t × Good-system t) ⊥) (r .2)
-    (moves-all g (λ t. Sound t × Good-system t) ⊥
+moves-good : (g : Program) → Good-program g → (b : System) → begin g ≡ some b → (l : List Move) →
+    OnResult (λ t. Sound t × Good-system t) ⊥ (moves g b l)
+moves-good g gd b e l = moves-all g (λ t. Sound t × Good-system t) ⊥
     (λ t m h. on-both Sound Good-system ⊥ (move g t m) (move-sound g t m (h .0))
-    (move-good g gd t m (h .0 .apart) (h .1))) l (r .0)
-    (begin-all g (λ t. Sound t × Good-system t) (λ c i. (first-sound g c, first-good g c gd i)) (r .0) (r .1))) .1
+    (move-good g gd t m (h .0 .apart) (h .1))) l b
+    (begin-all g (λ t. Sound t × Good-system t) (λ c i. (first-sound g c, first-good g c gd i)) b e)
+
+pub reached-good : (g : Program) → Good-program g → (l : List Move) (s : System) → Reached g l s → Good-system s
+reached-good g gd l s (b, e, m) = subst (OnResult (λ t. Sound t × Good-system t) ⊥) m (moves-good g gd b e l) .1
 
 pub never-stuck : Never-stuck
-never-stuck t g s l rd b e =
-    let gd = reads-good t g rd in
-    subst (OnResult (λ t. Sound t × Good-system t) ⊥) e
-    (moves-all g (λ t. Sound t × Good-system t) ⊥
-    (λ t m h. on-both Sound Good-system ⊥ (move g t m) (move-sound g t m (h .0))
-    (move-good g gd t m (h .0 .apart) (h .1))) l s
-    (begin-all g (λ t. Sound t × Good-system t) (λ c i. (first-sound g c, first-good g c gd i)) s b))
+never-stuck t g s l rd b e = subst (OnResult (λ t. Sound t × Good-system t) ⊥) e
+    (moves-good g (reads-good t g rd) s b l)

@@ -34,12 +34,12 @@ use Rattle.meaning.proofs.Swapping.{swapped-within}
 
 -- every worker of t was there with the same code and frames, or is new and has the property
 abbrev pub As-before-or-new : (Control → Type 0) → System → System → Type 0
-As-before-or-new PC s t = (q : ℕ) (x : Worker) → find (t .workers) q ≡ some x →
+As-before-or-new OnControl s t = (q : ℕ) (x : Worker) → find (t .workers) q ≡ some x →
     ((y : Worker) × (find (s .workers) q ≡ some y) × (x .control ≡ y .control) × (x .frames ≡ y .frames))
-    ⊎ (PC (x .control) × (x .frames ≡ []))
+    ⊎ (OnControl (x .control) × (x .frames ≡ []))
 
-pub all-as-before : (PC : Control → Type 0) (s : System) → As-before-or-new PC s s
-all-as-before PC s q x e = inl (x, e, refl, refl)
+pub all-as-before : (OnControl : Control → Type 0) (s : System) → As-before-or-new OnControl s s
+all-as-before OnControl s q x e = inl (x, e, refl, refl)
 
 -- a change that leaves code and frames
 abbrev pub Keeps-code : (Worker → Worker) → Type 0
@@ -68,94 +68,107 @@ add-link-keeps-code n w =
     cond-all (λ (x : Worker). (x .control ≡ w .control) × (x .frames ≡ w .frames)) (among n (w .links)) w
     (set-links (w .links ++ (n ∷ [])) w) (λ h. (refl, refl)) (λ h. (refl, refl))
 
-pub effect-code : (PC : Control → Type 0) (g : Program) (s : System) (w : Scope) (me : ℕ) (t : System) →
-    ((c : Control) → From g s w c → PC c) → Effect g s w me t → As-before-or-new PC s t
-effect-code PC g s w me t fr nothing q x e = inl (x, e, refl, refl)
-effect-code PC g s w me t fr (sent p v) q x e =
+pub effect-code : (OnControl : Control → Type 0) (g : Program) (s : System) (w : Scope) (me : ℕ) (t : System) →
+    ((c : Control) → From g s w c → OnControl c) → Effect g s w me t → As-before-or-new OnControl s t
+effect-code OnControl g s w me t fr nothing q x e = inl (x, e, refl, refl)
+effect-code OnControl g s w me t fr (sent p v) q x e =
     inl (code-before-change (s .workers) p (add-mail v) (λ y. refl) (λ y. (refl, refl)) q x e)
-effect-code PC g s w me t fr (spawned c f) q x e =
+effect-code OnControl g s w me t fr (spawned c f) q x e =
     elim (found-before-new (s .workers)
     (record { pid = s .next; control = c; frames = []; mail = []; links = []; traps = false }) q x e) [
       | inl a ↦ inl (x, a, refl, refl)
       | inr a ↦ inr (
-        subst (λ (z : Worker). PC (z .control)) (sym (a .1)) (fr c f),
+        subst (λ (z : Worker). OnControl (z .control)) (sym (a .1)) (fr c f),
         ap (λ (z : Worker). z .frames) (a .1),
       )
     ]
-effect-code PC g s w me t fr (linked-gone p d f) q x e = inl (x, e, refl, refl)
-effect-code PC g s w me t fr (exited p r) q x e = inl (x, e, refl, refl)
-effect-code PC g s w me t fr (linked p y d f) q x e =
+effect-code OnControl g s w me t fr (linked-gone p d f) q x e = inl (x, e, refl, refl)
+effect-code OnControl g s w me t fr (exited p r) q x e = inl (x, e, refl, refl)
+effect-code OnControl g s w me t fr (linked p y d f) q x e =
     let r = code-before-change (change (s .workers) me (add-link p)) p (add-link me) (add-link-keeps me)
     (add-link-keeps-code me) q x e in
     let o = code-before-change (s .workers) me (add-link p) (add-link-keeps p) (add-link-keeps-code p) q (r .0)
     (r .1) in
     inl (o .0, o .1, r .2 ∙ o .2, r .3 ∙ o .3)
-effect-code PC g s w me t fr (trapped b) q x e =
+effect-code OnControl g s w me t fr (trapped b) q x e =
     inl (code-before-change (s .workers) me (set-traps b) (λ y. refl) (λ y. (refl, refl)) q x e)
-effect-code PC g s w me t fr (showed l) q x e = inl (x, e, refl, refl)
-effect-code PC g s w me t fr (named y) q x e = inl (x, e, refl, refl)
-effect-code PC g s w me t fr (took ms) q x e =
+effect-code OnControl g s w me t fr (showed l) q x e = inl (x, e, refl, refl)
+effect-code OnControl g s w me t fr (named y) q x e = inl (x, e, refl, refl)
+effect-code OnControl g s w me t fr (took ms) q x e =
     inl (code-before-change (s .workers) me (set-mail ms) (λ y. refl) (λ y. (refl, refl)) q x e)
 
--- what a turn leads to: what the worker goes on with has the property, and so has what is new; ST stands for being
--- stuck
+-- what a turn leads to: what the worker goes on with has the property, and so has what is new; `IfStuck` is for where
+-- there is no meaning
 abbrev pub Onward : (Control → Type 0) → (List Frame → Type 0) → Type 0 → System → Outcome → Type 0
-Onward PC PK ST s (goes-on c k t) = PC c × PK k × As-before-or-new PC s t
-Onward PC PK ST s (leaves t) = Unit {0}
-Onward PC PK ST s stuck = ST
+Onward OnControl OnFrames IfStuck s (goes-on c k t) = OnControl c × OnFrames k × As-before-or-new OnControl s t
+Onward OnControl OnFrames IfStuck s (leaves t) = Unit {0}
+Onward OnControl OnFrames IfStuck s stuck = IfStuck
 
-pub act-onward : (PC : Control → Type 0) (PK : List Frame → Type 0) (ST : Type 0) (g : Program) (k : List Frame)
-    (s : System) (me : ℕ) (w : Scope) (j : Operation) (n : ℕ) (o : Outcome) → ((v : Value) → PC (give v)) →
-    ((v : Value) → PC (fail v)) → ((c : Control) → From g s w c → PC c) → PK k → ((Arity j n → ⊥) → ST) →
-    Apart (s .workers) → Act g k s me w j n o → Onward PC PK ST s o
-act-onward PC PK ST g k s me w j n o pv pf fr pk st u (acts-value v d) = (pv v, pk, effect-code PC g s w me _ fr d)
-act-onward PC PK ST g k s me w j n o pv pf fr pk st u (acts-error r) = (pf r, pk, all-as-before PC s)
-act-onward PC PK ST g k s me w j n o pv pf fr pk st u (acts-call c f) = (fr c f, pk, all-as-before PC s)
-act-onward PC PK ST g k s me w j n o pv pf fr pk st u (acts-swap x m v y e h) =
+pub act-onward : (OnControl : Control → Type 0) (OnFrames : List Frame → Type 0) (IfStuck : Type 0) (g : Program)
+    (k : List Frame)
+    (s : System) (me : ℕ) (w : Scope) (j : Operation) (n : ℕ) (o : Outcome) → ((v : Value) → OnControl (give v)) →
+    ((v : Value) → OnControl (fail v)) → ((c : Control) → From g s w c → OnControl c) → OnFrames k →
+    ((Arity j n → ⊥) → IfStuck) →
+    Apart (s .workers) → Act g k s me w j n o → Onward OnControl OnFrames IfStuck s o
+act-onward OnControl OnFrames IfStuck g k s me w j n o pv pf fr pk st u (acts-value v d) =
+    (pv v, pk, effect-code OnControl g s w me _ fr d)
+act-onward OnControl OnFrames IfStuck g k s me w j n o pv pf fr pk st u (acts-error r) =
+    (pf r, pk, all-as-before OnControl s)
+act-onward OnControl OnFrames IfStuck g k s me w j n o pv pf fr pk st u (acts-call c f) =
+    (fr c f, pk, all-as-before OnControl s)
+act-onward OnControl OnFrames IfStuck g k s me w j n o pv pf fr pk st u (acts-swap x m v y e h) =
     (pv v, pk, λ q z d. inl (z, swapped-within s x m u q z d, refl, refl))
-act-onward PC PK ST g k s me w j n o pv pf fr pk st u (acts-swapped-out x m e h) = tt
-act-onward PC PK ST g k s me w j n o pv pf fr pk st u (acts-stuck h) = st h
+act-onward OnControl OnFrames IfStuck g k s me w j n o pv pf fr pk st u (acts-swapped-out x m e h) = tt
+act-onward OnControl OnFrames IfStuck g k s me w j n o pv pf fr pk st u (acts-stuck h) = st h
 
 -- code and frames of all workers have the property
 abbrev pub Every-worker : (Control → Type 0) → (List Frame → Type 0) → List Worker → Type 0
-Every-worker PC PK ws = (q : ℕ) (x : Worker) → find ws q ≡ some x → PC (x .control) × PK (x .frames)
+Every-worker OnControl OnFrames ws = (q : ℕ) (x : Worker) → find ws q ≡ some x →
+    OnControl (x .control) × OnFrames (x .frames)
 
-module _ (PC : Control → Type 0) (PK : List Frame → Type 0) where
-  same-code : (x y : Worker) → x .control ≡ y .control → x .frames ≡ y .frames → PC (y .control) × PK (y .frames) →
-      PC (x .control) × PK (x .frames)
-  same-code x y e d h = (subst PC (sym e) (h .0), subst PK (sym d) (h .1))
+module _ (OnControl : Control → Type 0) (OnFrames : List Frame → Type 0) where
+  same-code : (x y : Worker) → x .control ≡ y .control → x .frames ≡ y .frames →
+      OnControl (y .control) × OnFrames (y .frames) →
+      OnControl (x .control) × OnFrames (x .frames)
+  same-code x y e d h = (subst OnControl (sym e) (h .0), subst OnFrames (sym d) (h .1))
 
-  pub within-every : (vs ws : List Worker) → Within vs ws → Every-worker PC PK ws → Every-worker PC PK vs
+  pub within-every : (vs ws : List Worker) → Within vs ws → Every-worker OnControl OnFrames ws →
+      Every-worker OnControl OnFrames vs
   within-every vs ws sub h q x e = h q x (sub q x e)
 
   pub change-every : (ws : List Worker) (n : ℕ) (f : Worker → Worker) → Keeps-number f → Keeps-code f →
-      Every-worker PC PK ws → Every-worker PC PK (change ws n f)
+      Every-worker OnControl OnFrames ws → Every-worker OnControl OnFrames (change ws n f)
   change-every ws n f kp kc h q x e =
       let r = code-before-change ws n f kp kc q x e in
       same-code x (r .0) (r .2) (r .3) (h q (r .0) (r .1))
 
   -- what was there is as before, what is new has it, and the one that moved has it
-  pub settle-every : (s t : System) (n : ℕ) (c : Control) (k : List Frame) → PK [] → As-before-or-new PC s t →
-      Every-worker PC PK (s .workers) → PC c → PK k → Every-worker PC PK (change (t .workers) n (set-control c k))
+  pub settle-every : (s t : System) (n : ℕ) (c : Control) (k : List Frame) → OnFrames [] →
+      As-before-or-new OnControl s t →
+      Every-worker OnControl OnFrames (s .workers) → OnControl c → OnFrames k →
+      Every-worker OnControl OnFrames (change (t .workers) n (set-control c k))
   settle-every s t n c k nl od h pc pk q x e =
       let r = found-before-change (t .workers) n (set-control c k) (λ y. refl) q x e in
       go (r .0) (r .1) (r .2)
     where
       was : (y : Worker) → find (t .workers) q ≡ some y →
           ((z : Worker) × (find (s .workers) q ≡ some z) × (y .control ≡ z .control) × (y .frames ≡ z .frames))
-          ⊎ (PC (y .control) × (y .frames ≡ [])) → PC (y .control) × PK (y .frames)
+          ⊎ (OnControl (y .control) × (y .frames ≡ [])) → OnControl (y .control) × OnFrames (y .frames)
       was y d (inl i) = same-code y (i .0) (i .2) (i .3) (h q (i .0) (i .1))
-      was y d (inr i) = (i .0, subst PK (sym (i .1)) nl)
+      was y d (inr i) = (i .0, subst OnFrames (sym (i .1)) nl)
 
       go : (y : Worker) → find (t .workers) q ≡ some y →
-          ((q ≡ n → ⊥) × (x ≡ y)) ⊎ ((q ≡ n) × (x ≡ set-control c k y)) → PC (x .control) × PK (x .frames)
-      go y d (inl i) = subst (λ (z : Worker). PC (z .control) × PK (z .frames)) (sym (i .1)) (was y d (od q y d))
-      go y d (inr i) = subst (λ (z : Worker). PC (z .control) × PK (z .frames)) (sym (i .1)) (pc, pk)
+          ((q ≡ n → ⊥) × (x ≡ y)) ⊎ ((q ≡ n) × (x ≡ set-control c k y)) →
+          OnControl (x .control) × OnFrames (x .frames)
+      go y d (inl i) = subst (λ (z : Worker). OnControl (z .control) × OnFrames (z .frames)) (sym (i .1))
+          (was y d (od q y d))
+      go y d (inr i) = subst (λ (z : Worker). OnControl (z .control) × OnFrames (z .frames)) (sym (i .1)) (pc, pk)
 
   -- signals and the clock change no code
-  pub signal-every : (s : System) (g : Signal) (w : Worker) → Apart (s .workers) → Every-worker PC PK (s .workers) →
-      Every-worker PC PK (take-signal s g w .workers)
-  signal-every s g w u h = take-signal-all (λ t. Every-worker PC PK (t .workers)) s g w
+  pub signal-every : (s : System) (g : Signal) (w : Worker) → Apart (s .workers) →
+      Every-worker OnControl OnFrames (s .workers) →
+      Every-worker OnControl OnFrames (take-signal s g w .workers)
+  signal-every s g w u h = take-signal-all (λ t. Every-worker OnControl OnFrames (t .workers)) s g w
       (change-every (s .workers) (w .pid) (add-mail _) (λ x. refl) (λ x. (refl, refl)) h)
       (change-every (change (s .workers) (w .pid) (cut-link (g .from))) (g .from) (cut-link (w .pid)) (λ x. refl)
       (λ x. (refl, refl))

@@ -29,12 +29,12 @@ use Rattle.meaning.proofs.Quiet.{somebody-can}
 use Rattle.meaning.proofs.Results.{turn-found}
 
 due-or-not : (s : System) (q : ℕ) → Due s q ⊎ (Due s q → ⊥)
-due-or-not s q = one (find (s .workers) q) refl
+due-or-not s q = of-worker (find (s .workers) q) refl
   where
-    three : (w : Worker) → find (s .workers) q ≡ some w → (u : ℕ) → time-of (w .control) ≡ some u →
+    of-clock : (w : Worker) → find (s .workers) q ≡ some w → (u : ℕ) → time-of (w .control) ≡ some u →
         Dec (u ≤ s .clock) → Due s q ⊎ (Due s q → ⊥)
-    three w f u e (yes l) = inl (w, u, f, e, l)
-    three w f u e (no h) = inr (λ d. other d)
+    of-clock w f u e (yes l) = inl (w, u, f, e, l)
+    of-clock w f u e (no h) = inr (λ d. other d)
       where
         other : Due s q → ⊥
         other (x, v, f′, e′, l) =
@@ -42,17 +42,17 @@ due-or-not s q = one (find (s .workers) q) refl
             let z : u ≡ v = cc (ap (λ k. time-of (k .control)) y) in
             h (omega arith)
 
-    two : (w : Worker) → find (s .workers) q ≡ some w → (o : Option ℕ) → time-of (w .control) ≡ o →
+    of-time : (w : Worker) → find (s .workers) q ≡ some w → (o : Option ℕ) → time-of (w .control) ≡ o →
         Due s q ⊎ (Due s q → ⊥)
-    two w f none e = inr (λ d. other d)
+    of-time w f none e = inr (λ d. other d)
       where
         other : Due s q → ⊥
         other (x, v, f′, e′, l) = let y : w ≡ x = cc in impossible (cc (ap (λ k. time-of (k .control)) y))
-    two w f (some u) e = three w f u e (decLe u (s .clock))
+    of-time w f (some u) e = of-clock w f u e (decLe u (s .clock))
 
-    one : (o : Option Worker) → find (s .workers) q ≡ o → Due s q ⊎ (Due s q → ⊥)
-    one none e = inr (λ d. let f = d .2 in impossible (cc))
-    one (some w) e = two w e (time-of (w .control)) refl
+    of-worker : (o : Option Worker) → find (s .workers) q ≡ o → Due s q ⊎ (Due s q → ⊥)
+    of-worker none e = inr (λ d. let f = d .2 in impossible (cc))
+    of-worker (some w) e = of-time w e (time-of (w .control)) refl
 
 pub quiet-now : (g : Program) (s : System) (k : ℕ) → Good g s (flush k) (round ∷ []) → s .signals ≡ [] →
     first-time (s .workers) ≡ none → quiet g s ≡ true
@@ -89,7 +89,7 @@ turn-soon g s n k es i b = go (move g s (turn n)) refl
     go : (r : Result) → move g s (turn n) ≡ r → Soon g s (serve n (suc k)) es ⊎ No-meaning g s
     go not-allowed e = absurd (turn-allowed g s n (i .exact .able n (zero, here)) e)
     go no-meaning e = inr (n, e)
-    go (is t) e = inl (one (could-or-not g t n) (due-or-not t n))
+    go (is t) e = inl (after-it (could-or-not g t n) (due-or-not t n))
       where
         w : Woken g n s t (those (newly-could g n s t) (t .workers))
         w = woken-all g n s t (after-turn g s t n (i .numbered) e .numbered)
@@ -104,14 +104,14 @@ turn-soon g s n k es i b = go (move g s (turn n)) refl
             left-of (yes l) = inl l
             left-of (no f) = inr (omega arith, d)
 
-        one : Could g t n ⊎ (Could g t n → ⊥) → Due t n ⊎ (Due t n → ⊥) → Soon g s (serve n (suc k)) es
-        one (inr f) d =
+        after-it : Could g t n ⊎ (Could g t n → ⊥) → Due t n ⊎ (Due t n → ⊥) → Soon g s (serve n (suc k)) es
+        after-it (inr f) d =
             let y = turn-over g s t n k es (those (newly-could g n s t) (t .workers)) i e w f in
             now (y .0) (y .1) tt
-        one (inl c) (inr f) =
+        after-it (inl c) (inr f) =
             let y = turn-back g s t n k es (those (newly-could g n s t) (t .workers)) i e w c f in
             now (y .0) (y .1) tt
-        one (inl c) (inl d) = on c d b
+        after-it (inl c) (inl d) = on c d b
 
 pop-soon : (g : Program) (s : System) (k p : ℕ) (es : List Entry) → Good g s (flush k) (worker p ∷ es) → Idle s k →
     Soon g s (flush k) (worker p ∷ es) ⊎ No-meaning g s
@@ -183,17 +183,17 @@ round-soon g s k es i idle = go (at-round g s k es i)
 
 pub flush-soon : (g : Program) (s : System) (k : ℕ) (es : List Entry) → Good g s (flush k) es →
     Comes-on g s (flush k) es
-flush-soon g s k es i = one k i (s .signals) refl
+flush-soon g s k es i = go k i (s .signals) refl
   where
-    two : (k : ℕ) → Idle s k → (es : List Entry) → Good g s (flush k) es → Comes-on g s (flush k) es
-    two k d [] i = absurd (At-none (i .exact .rounds .1))
-    two k d (round ∷ es) i = round-soon g s k es i d
-    two k d (worker p ∷ es) i = no-quiet g s (flush k) (worker p ∷ es) (pop-soon g s k p es i d)
+    idle : (k : ℕ) → Idle s k → (es : List Entry) → Good g s (flush k) es → Comes-on g s (flush k) es
+    idle k d [] i = absurd (At-none (i .exact .rounds .1))
+    idle k d (round ∷ es) i = round-soon g s k es i d
+    idle k d (worker p ∷ es) i = no-quiet g s (flush k) (worker p ∷ es) (pop-soon g s k p es i d)
 
-    one : (k : ℕ) → Good g s (flush k) es → (gs : List Signal) → s .signals ≡ gs → Comes-on g s (flush k) es
-    one zero i gs e = two zero (inl refl) es i
-    one (suc k) i [] e = two (suc k) (inr e) es i
-    one (suc k) i (x ∷ gs) e = inl (signal-soon g s k es x gs e i)
+    go : (k : ℕ) → Good g s (flush k) es → (gs : List Signal) → s .signals ≡ gs → Comes-on g s (flush k) es
+    go zero i gs e = idle zero (inl refl) es i
+    go (suc k) i [] e = idle (suc k) (inr e) es i
+    go (suc k) i (x ∷ gs) e = inl (signal-soon g s k es x gs e i)
 
 pub goes-on-always : (g : Program) (s : System) (m : Mode) (es : List Entry) → Good g s m es → Budget s m →
     Soon g s m es ⊎ (No-meaning g s ⊎ (quiet g s ≡ true))
