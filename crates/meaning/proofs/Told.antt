@@ -1,99 +1,118 @@
--- Whoever is linked to a worker that ends is told, behind the signals that were there.
+-- Whoever is linked to a worker that ends is told, behind the signals that were there: a worker ends by its own turn,
+-- by a swap or by a signal, and each appends a signal to all its links.
 use mathlib.Core.Path.{_≡_, refl, sym, ap, subst, _∙_}
 use mathlib.Core.Logic.{inl, inr}
-use mathlib.Core.Bool.{true, _||_, cond}
-use mathlib.Core.List.{List, [], _∷_, _++_, append-nil, append-assoc}
+use mathlib.Core.Bool.{true}
+use mathlib.Core.List.{List, _++_}
 use mathlib.Core.Option.{Option, some, none}
-use Prim.Native.Nat.{ℕ, _+_}
-use lib.Dec.{eqb, ltb}
+use Prim.Native.Nat.{ℕ}
+use lib.Dec.{eqb}
 use Rattle.meaning.specs.Basics.{Name}
-use Rattle.meaning.specs.Atoms.{a-old, a-normal}
+use Rattle.meaning.specs.Atoms.{a-old}
 use Rattle.meaning.specs.Syntax.{Program}
-use Rattle.meaning.specs.Values.{Value, v-atom, sameV}
-use Rattle.meaning.specs.System.{cut-link, Scope, Worker, Signal, System, with-signals, find, change, set-control, set-mail, add-mail, set-traps, among, add-link, gone, told, ended, old, end-old, with-version, with-clock, Apart, swapped}
+use Rattle.meaning.specs.Values.{Value, v-atom}
+use Rattle.meaning.specs.System.{cut-link, Worker, Signal, System, with-signals, find, change, set-control, add-mail}
+use Rattle.meaning.specs.System.{among, gone, told, old, Apart, swapped}
 use Rattle.meaning.specs.Turns.{Outcome}
-use Rattle.meaning.specs.Moves.{Move, turn, signal, tick, is, not-allowed, settle, take-signal, deliver, first-time, move}
-use Rattle.meaning.specs.Promise.{Behind, Linked-told, end-reason, oldest-reason, reason-of, Told-of, this-one, a-later}
-use Rattle.meaning.specs.Effects.{Effect, nothing, sent, spawned, linked-gone, exited, linked, trapped, showed, named, took, Turned, turn-goes, turn-ends, turn-swaps, turn-swapped-out, turn-stuck}
-use Rattle.meaning.proofs.Splits.{no-clash, cond-all, opt-all, cond-true, bool-all, some-is, none-some, eqb-yes, eqb-is, eqb-isnt}
-use Rattle.meaning.proofs.Finding.{Keeps, find-pid, find-gone-other, find-append-some}
-use Rattle.meaning.proofs.Sound.{OnIs, on-is-of, add-link-keeps, SoundS, turn-all}
-use Rattle.meaning.proofs.Parts.{change-found, end-old-spares, reached-sound}
+use Rattle.meaning.specs.Moves.{Move, turn, signal, tick, settle, deliver, move}
+use Rattle.meaning.specs.Promise.{Behind, Linked-told, end-reason, oldest-reason, reason-of, Told-of}
+use Rattle.meaning.specs.Effects.{Turned, turn-goes, turn-ends, turn-swaps, turn-swapped-out, turn-stuck}
+use Rattle.meaning.proofs.Splits.{cond-all, cond-true, bool-all, some-is, none-some, eqb-yes, eqb-is, eqb-isnt}
+use Rattle.meaning.proofs.Finding.{find-pid, find-gone-other, stays-after-change, change-ends-nobody}
+use Rattle.meaning.proofs.Links.{Sound, reached-sound}
+use Rattle.meaning.proofs.Results.{OnIs, on-is-of, turn-all, deliver-all, take-signal-all, tick-all}
+use Rattle.meaning.proofs.Swapping.{told-each, swapped-tells, swapped-spares}
+use Rattle.meaning.proofs.Alone.{effect-others}
 
--- nobody is gone by a change
-pub change-stays : (ws : List Worker) (n : ℕ) (f : Worker → Worker) → Keeps f → (q : ℕ) (w : Worker) → find ws q ≡ some w → (x : Worker) × (find (change ws n f) q ≡ some x)
-change-stays ws n f kp q w e = let r = change-found ws n f kp q w e in (r .0, r .1)
-change-here : (ws : List Worker) (n : ℕ) (f : Worker → Worker) → Keeps f → (q : ℕ) (w : Worker) → find ws q ≡ some w → find (change ws n f) q ≡ none → ⊥
-change-here ws n f kp q w e d = let r = change-found ws n f kp q w e in none-some (sym d ∙ r .1)
-pub did-stays : (g : Program) (s : System) (v : Scope) (me : ℕ) (t : System) → Effect g s v me t → (q : ℕ) (w : Worker) → find (s .workers) q ≡ some w → (x : Worker) × (find (t .workers) q ≡ some x)
-did-stays g s v me t nothing q w e = (w, e)
-did-stays g s v me t (sent p m) q w e = change-stays (s .workers) p (add-mail m) (λ x. refl) q w e
-did-stays g s v me t (spawned c f) q w e = (w, find-append-some (s .workers) _ q w e)
-did-stays g s v me t (linked-gone p d f) q w e = (w, e)
-did-stays g s v me t (exited p r) q w e = (w, e)
-did-stays g s v me t (linked p x d f) q w e = let r = change-stays (s .workers) me (add-link p) (add-link-keeps p) q w e in change-stays (change (s .workers) me (add-link p)) p (add-link me) (add-link-keeps me) q (r .0) (r .1)
-did-stays g s v me t (trapped b) q w e = change-stays (s .workers) me (set-traps b) (λ x. refl) q w e
-did-stays g s v me t (showed l) q w e = (w, e)
-did-stays g s v me t (named x) q w e = (w, e)
-did-stays g s v me t (took ms) q w e = change-stays (s .workers) me (set-mail ms) (λ x. refl) q w e
+-- q is told of the end of p, if p is no more
+abbrev Told-if-gone : System → ℕ → ℕ → Value → System → Type 0
+Told-if-gone s p q y t = find (t .workers) p ≡ none → (gs : List Signal) × Behind s t gs × Told-of q p y gs
 
-told-waits : (p q : ℕ) (r : Value) (ls : List ℕ) → among q ls ≡ true → Told-of q p r (told p r ls)
-told-waits p q r [] a = no-clash a refl
-told-waits p q r (l ∷ ls) a = bool-all (λ b. eqb q l ≡ b → (b || among q ls) ≡ true → Told-of q p r (told p r (l ∷ ls))) (eqb q l)
-  (λ h i d. subst (λ (z : ℕ). Told-of q p r (record { to = z; from = p; reason = r } ∷ told p r ls)) (eqb-is q l h) this-one)
-  (λ h i d. a-later (told-waits p q r ls d)) refl a
-waits-left : (p q : ℕ) (r : Value) (gs hs : List Signal) → Told-of q p r gs → Told-of q p r (gs ++ hs)
-waits-left p q r gs hs this-one = this-one
-waits-left p q r gs hs (a-later {gs = ks} h) = a-later (waits-left p q r ks hs h)
-waits-right : (p q : ℕ) (r : Value) (gs hs : List Signal) → Told-of q p r hs → Told-of q p r (gs ++ hs)
-waits-right p q r [] hs h = h
-waits-right p q r (g ∷ gs) hs h = a-later (waits-right p q r gs hs h)
-pub end-old-tells : (us : List Worker) (x : Name) (n : ℕ) (s : System) → (gs : List Signal) × (end-old us x n s .signals ≡ s .signals ++ gs) × ((p q : ℕ) (w : Worker) → find us p ≡ some w → old x n w ≡ true → among q (w .links) ≡ true → Told-of q p (v-atom a-old) gs)
-end-old-tells [] x n s = ([], sym (append-nil (s .signals)), λ p q w e h a. absurd (none-some e))
-end-old-tells (u ∷ us) x n s = bool-all (λ b. old x n u ≡ b → (gs : List Signal) × (end-old us x n (cond b (ended s u (v-atom a-old)) s) .signals ≡ s .signals ++ gs) × ((p q : ℕ) (w : Worker) → find (u ∷ us) p ≡ some w → old x n w ≡ true → among q (w .links) ≡ true → Told-of q p (v-atom a-old) gs)) (old x n u)
-  (λ h i. let r = end-old-tells us x n (ended s u (v-atom a-old)) in let mine = told (u .pid) (v-atom a-old) (u .links) in
-    (mine ++ r .0, r .1 ∙ append-assoc (s .signals) mine (r .0), λ p q w e o a. cond-all (λ y. y ≡ some w → Told-of q p (v-atom a-old) (mine ++ r .0)) (eqb (u .pid) p) (some u) (find us p)
-      (λ c d. waits-left p q (v-atom a-old) mine (r .0) (subst (λ (z : ℕ). Told-of q p (v-atom a-old) (told z (v-atom a-old) (u .links))) (sym (eqb-is (u .pid) p c)) (told-waits p q (v-atom a-old) (u .links) (ap (λ (z : Worker). among q (z .links)) (some-is d) ∙ a))))
-      (λ c d. waits-right p q (v-atom a-old) mine (r .0) (r .2 p q w d o a)) e))
-  (λ h i. let r = end-old-tells us x n s in (r .0, r .1, λ p q w e o a. cond-all (λ y. y ≡ some w → Told-of q p (v-atom a-old) (r .0)) (eqb (u .pid) p) (some u) (find us p) (λ c d. no-clash o (sym (ap (old x n) (some-is d)) ∙ h)) (λ c d. r .2 p q w d o a) e)) refl
+swap-told : (s : System) (x : Name) (m p q : ℕ) (w : Worker) (y : Value) → y ≡ v-atom a-old → Apart (s .workers) →
+    find (s .workers) p ≡ some w → among q (w .links) ≡ true → Told-if-gone s p q y (swapped s x m)
+swap-told s x m p q w y yo u e a gn =
+    let r = swapped-tells s x m in
+    bool-all (λ b. old x m w ≡ b → (gs : List Signal) × Behind s (swapped s x m) gs × Told-of q p y gs) (old x m w)
+    (λ h i. (
+      r .0,
+      (s .signals, r .1, inl refl),
+      subst (λ (z : Value). Told-of q p z (r .0)) (sym yo) (r .2 p q w e h a),
+    ))
+    (λ h i. absurd (none-some (sym gn ∙ swapped-spares s x m p w u e h))) refl
 
--- D
-abbrev ToldAt : System → ℕ → ℕ → Value → System → Type 0
-ToldAt s p q y t = find (t .workers) p ≡ none → (gs : List Signal) × Behind s t gs × Told-of q p y gs
-swap-told : (s : System) (x : Name) (m p q : ℕ) (w : Worker) (y : Value) → y ≡ v-atom a-old → Apart (s .workers) → find (s .workers) p ≡ some w → among q (w .links) ≡ true → ToldAt s p q y (swapped s x m)
-swap-told s x m p q w y yo u e a gn = let r = end-old-tells (s .workers) x m (with-version s x (m + 1)) in bool-all (λ b. old x m w ≡ b → (gs : List Signal) × Behind s (swapped s x m) gs × Told-of q p y gs) (old x m w)
-  (λ h i. (r .0, (s .signals, r .1, inl refl), subst (λ (z : Value). Told-of q p z (r .0)) (sym yo) (r .2 p q w e h a)))
-  (λ h i. absurd (none-some (sym gn ∙ end-old-spares (s .workers) x m (with-version s x (m + 1)) p w u e h ∙ e))) refl
-end-told : (s : System) (me : Worker) (r : Value) (p q : ℕ) (w : Worker) (hs : List Signal) → s .signals ≡ hs → find (s .workers) (me .pid) ≡ some me → find (s .workers) p ≡ some w → among q (w .links) ≡ true → find (gone (s .workers) (me .pid)) p ≡ none → (gs : List Signal) × (s .signals ++ told (me .pid) r (me .links) ≡ hs ++ gs) × Told-of q p r gs × (me ≡ w)
-end-told s me r p q w hs sg fm fp a gn = bool-all (λ b. (gs : List Signal) × (s .signals ++ told (me .pid) r (me .links) ≡ hs ++ gs) × Told-of q p r gs × (me ≡ w)) (eqb p (me .pid))
-  (λ h. let i = eqb-is p (me .pid) h in let z : me ≡ w = some-is (sym fm ∙ subst (λ (j : ℕ). find (s .workers) j ≡ some w) i fp) in
-    (told (me .pid) r (me .links), ap (λ (y : List Signal). y ++ told (me .pid) r (me .links)) sg, subst (λ (j : ℕ). Told-of q p r (told j r (me .links))) i (told-waits p q r (me .links) (ap (λ (y : Worker). among q (y .links)) z ∙ a)), z))
-  (λ h. absurd (none-some (sym gn ∙ find-gone-other (s .workers) (me .pid) p (eqb-isnt p (me .pid) h) ∙ fp)))
--- whose turn it was, if it swapped, or another: 'old
-old-end : (s : System) (n p : ℕ) (me w : Worker) → me .pid ≡ n → find (s .workers) (me .pid) ≡ some me → find (s .workers) p ≡ some w → end-reason (me .control) (me .frames) ≡ v-atom a-old → reason-of s (turn n) w ≡ v-atom a-old
-old-end s n p me w pn fm fp wo = cond-all (λ (y : Value). y ≡ v-atom a-old) (eqb n (w .pid)) (end-reason (w .control) (w .frames)) (v-atom a-old)
-  (λ h. let z : me ≡ w = some-is (sym fm ∙ subst (λ (j : ℕ). find (s .workers) j ≡ some w) (sym (find-pid (s .workers) p w fp) ∙ sym (eqb-is n (w .pid) h) ∙ sym pn) fp) in subst (λ (v : Worker). end-reason (v .control) (v .frames) ≡ v-atom a-old) z wo) (λ h. refl)
-turned-told : (g : Program) (s : System) (n p q : ℕ) (w me : Worker) (o : Outcome) → SoundS s → me .pid ≡ n → find (s .workers) (me .pid) ≡ some me → find (s .workers) p ≡ some w → among q (w .links) ≡ true → Turned g s me o → OnIs (ToldAt s p q (reason-of s (turn n) w)) (settle n o)
-turned-told g s n p q w me o sd pn fm e a (turn-goes c k v {t} d) = λ gn. let r = did-stays g s v (me .pid) t d p w e in absurd (change-here (t .workers) n (set-control c k) (λ x. refl) p (r .0) (r .1) gn)
-turned-told g s n p q w me o sd pn fm e a (turn-ends r why) = λ gn. let z = end-told s me r p q w (s .signals) refl fm e a gn in let same-end : reason-of s (turn n) w ≡ r = cond-true (eqb n (w .pid)) (end-reason (w .control) (w .frames)) (v-atom a-old) (eqb-yes n (w .pid) (sym pn ∙ ap (λ (v : Worker). v .pid) (z .3))) ∙ sym (ap (λ (v : Worker). end-reason (v .control) (v .frames)) (z .3)) ∙ sym why in (z .0, (s .signals, z .1, inl refl), subst (λ (y : Value). Told-of q p y (z .0)) (sym same-end) (z .2))
-turned-told g s n p q w me o sd pn fm e a (turn-swaps c k x m y d f wo) = λ gn. swap-told s x m p q w (reason-of s (turn n) w) (old-end s n p me w pn fm e wo) (sd .apart) e a (go (find (swapped s x m .workers) p) refl gn)
+end-told : (s : System) (me : Worker) (r : Value) (p q : ℕ) (w : Worker) (hs : List Signal) → s .signals ≡ hs →
+    find (s .workers) (me .pid) ≡ some me → find (s .workers) p ≡ some w → among q (w .links) ≡ true →
+    find (gone (s .workers) (me .pid)) p ≡ none →
+    (gs : List Signal) × (s .signals ++ told (me .pid) r (me .links) ≡ hs ++ gs) × Told-of q p r gs × (me ≡ w)
+end-told s me r p q w hs sg fm fp a gn =
+    bool-all (λ b. (gs : List Signal) × (s .signals ++ told (me .pid) r (me .links) ≡ hs ++ gs) × Told-of q p r gs
+    × (me ≡ w)) (eqb p (me .pid))
+    (λ h. let i = eqb-is p (me .pid) h in
+    let z : me ≡ w = some-is (sym fm ∙ subst (λ (j : ℕ). find (s .workers) j ≡ some w) i fp) in (
+      told (me .pid) r (me .links),
+      ap (λ (y : List Signal). y ++ told (me .pid) r (me .links)) sg,
+      subst (λ (j : ℕ). Told-of q p r (told j r (me .links))) i
+          (told-each p q r (me .links) (ap (λ (y : Worker). among q (y .links)) z ∙ a)),
+      z,
+    ))
+    (λ h. absurd (none-some (sym gn ∙ find-gone-other (s .workers) (me .pid) p (eqb-isnt p (me .pid) h) ∙ fp)))
+
+-- a swap ends with 'old, whoever's turn it was
+swap-reason : (s : System) (n p : ℕ) (me w : Worker) → me .pid ≡ n → find (s .workers) (me .pid) ≡ some me →
+    find (s .workers) p ≡ some w → end-reason (me .control) (me .frames) ≡ v-atom a-old →
+    reason-of s (turn n) w ≡ v-atom a-old
+swap-reason s n p me w pn fm fp wo =
+    cond-all (λ (y : Value). y ≡ v-atom a-old) (eqb n (w .pid)) (end-reason (w .control) (w .frames)) (v-atom a-old)
+    (λ h. let z : me ≡ w = some-is (sym fm ∙ subst (λ (j : ℕ). find (s .workers) j ≡ some w)
+    (sym (find-pid (s .workers) p w fp) ∙ sym (eqb-is n (w .pid) h) ∙ sym pn) fp) in
+    subst (λ (v : Worker). end-reason (v .control) (v .frames) ≡ v-atom a-old) z wo) (λ h. refl)
+
+turned-told : (g : Program) (s : System) (n p q : ℕ) (w me : Worker) (o : Outcome) → Sound s → me .pid ≡ n →
+    find (s .workers) (me .pid) ≡ some me → find (s .workers) p ≡ some w → among q (w .links) ≡ true →
+    Turned g s me o → OnIs (Told-if-gone s p q (reason-of s (turn n) w)) (settle n o)
+turned-told g s n p q w me o sd pn fm e a (turn-goes c k v {t} d) = λ gn.
+    let r = effect-others g s v (me .pid) t d p w e in
+    absurd (change-ends-nobody (t .workers) n (set-control c k) (λ x. refl) p (r .0) (r .1) gn)
+turned-told g s n p q w me o sd pn fm e a (turn-ends r why) = λ gn.
+    let z = end-told s me r p q w (s .signals) refl fm e a gn in
+    let same-end : reason-of s (turn n) w ≡ r =
+    cond-true (eqb n (w .pid)) (end-reason (w .control) (w .frames)) (v-atom a-old)
+    (eqb-yes n (w .pid) (sym pn ∙ ap (λ (v : Worker). v .pid) (z .3)))
+    ∙ sym (ap (λ (v : Worker). end-reason (v .control) (v .frames)) (z .3)) ∙ sym why in
+    (z .0, (s .signals, z .1, inl refl), subst (λ (y : Value). Told-of q p y (z .0)) (sym same-end) (z .2))
+turned-told g s n p q w me o sd pn fm e a (turn-swaps c k x m y d f wo) =
+    λ gn. swap-told s x m p q w (reason-of s (turn n) w) (swap-reason s n p me w pn fm e wo) (sd .apart) e a
+    (go (find (swapped s x m .workers) p) refl gn)
   where
-    go : (i : Option Worker) → find (swapped s x m .workers) p ≡ i → find (change (swapped s x m .workers) n (set-control c k)) p ≡ none → find (swapped s x m .workers) p ≡ none
+    go : (i : Option Worker) → find (swapped s x m .workers) p ≡ i →
+        find (change (swapped s x m .workers) n (set-control c k)) p ≡ none → find (swapped s x m .workers) p ≡ none
     go none r gn = r
-    go (some v) r gn = absurd (change-here (swapped s x m .workers) n (set-control c k) (λ x. refl) p v r gn)
-turned-told g s n p q w me o sd pn fm e a (turn-swapped-out x m d f wo) = swap-told s x m p q w (reason-of s (turn n) w) (old-end s n p me w pn fm e wo) (sd .apart) e a
+    go (some v) r gn = absurd (change-ends-nobody (swapped s x m .workers) n (set-control c k) (λ x. refl) p v r gn)
+turned-told g s n p q w me o sd pn fm e a (turn-swapped-out x m d f wo) =
+    swap-told s x m p q w (reason-of s (turn n) w) (swap-reason s n p me w pn fm e wo) (sd .apart) e a
 turned-told g s n p q w me o sd pn fm e a turn-stuck = tt
-deliver-told : (s : System) (p q : ℕ) (w : Worker) (ss : List Signal) → s .signals ≡ ss → find (s .workers) p ≡ some w → among q (w .links) ≡ true → OnIs (ToldAt s p q (oldest-reason ss)) (deliver s ss)
-deliver-told s p q w [] sg e a = tt
-deliver-told s p q w (g ∷ gs) sg e a = opt-all (OnIs (ToldAt s p q (g .reason))) (find (s .workers) (g .to)) (is (with-signals s gs)) (λ v. is (take-signal (with-signals s gs) g v)) (λ h gn. absurd (none-some (sym gn ∙ e)))
-  (λ v h. let t = with-signals s gs in cond-all (ToldAt s p q (g .reason)) (v .traps) _ _ (λ d gn. absurd (change-here (s .workers) (v .pid) (add-mail _) (λ x. refl) p w e gn))
-    (λ d. cond-all (ToldAt s p q (g .reason)) (sameV (g .reason) (v-atom a-normal)) _ (ended t v (g .reason))
-      (λ c gn. let r = change-stays (s .workers) (v .pid) (cut-link (g .from)) (λ x. refl) p w e in absurd (change-here (change (s .workers) (v .pid) (cut-link (g .from))) (g .from) (cut-link (v .pid)) (λ x. refl) p (r .0) (r .1) gn))
-      (λ c gn. let z = end-told t v (g .reason) p q w gs refl (subst (λ (j : ℕ). find (s .workers) j ≡ some v) (sym (find-pid (s .workers) (g .to) v h)) h) e a gn in (z .0, (gs, z .1, inr (g, sg)), z .2))))
+
+signal-told : (s : System) (p q : ℕ) (w : Worker) → find (s .workers) p ≡ some w → among q (w .links) ≡ true →
+    OnIs (Told-if-gone s p q (oldest-reason (s .signals))) (deliver s (s .signals))
+signal-told s p q w e a = deliver-all (Told-if-gone s p q (oldest-reason (s .signals))) (Unit {0}) s (s .signals)
+    (λ g hs i gn. absurd (none-some (sym gn ∙ e)))
+    (λ g hs v i h. take-signal-all (Told-if-gone s p q (oldest-reason (s .signals))) (with-signals s hs) g v
+    (λ gn. absurd (change-ends-nobody (s .workers) (v .pid) (add-mail _) (λ x. refl) p w e gn))
+    (λ gn. let r = stays-after-change (s .workers) (v .pid) (cut-link (g .from)) (λ x. refl) p w e in
+    absurd (change-ends-nobody (change (s .workers) (v .pid) (cut-link (g .from))) (g .from) (cut-link (v .pid))
+    (λ x. refl) p (r .0) (r .1) gn))
+    (λ gn. let z = end-told (with-signals s hs) v (g .reason) p q w hs refl
+    (subst (λ (j : ℕ). find (s .workers) j ≡ some v) (sym (find-pid (s .workers) (g .to) v h)) h) e a gn in (
+      z .0,
+      (hs, z .1, inr (g, i)),
+      subst (λ (y : Value). Told-of q p y (z .0)) (sym (ap oldest-reason i)) (z .2),
+    )))
+
 pub linked-told : Linked-told
-linked-told g l s s′ m p q w r e f gn a = on-is-of (ToldAt s p q (reason-of s m w)) (move g s m) s′ (go m) e gn
+linked-told g l s s′ m p q w r e f gn a = on-is-of (Told-if-gone s p q (reason-of s m w)) (move g s m) s′ (go m) e gn
   where
-    go : (m : Move) → OnIs (ToldAt s p q (reason-of s m w)) (move g s m)
-    go (turn n) = turn-all g s n (OnIs (ToldAt s p q (reason-of s (turn n) w))) tt (λ me o i j d v. turned-told g s n p q w me o (reached-sound g l s r) i j f a v)
-    go signal = deliver-told s p q w (s .signals) refl f a
-    go tick = opt-all (OnIs (ToldAt s p q (v-atom a-old))) (first-time (s .workers)) not-allowed (λ t. cond (ltb (s .clock) t) (is (with-clock s t)) not-allowed) (λ i. tt) (λ t i. cond-all (OnIs (ToldAt s p q (v-atom a-old))) (ltb (s .clock) t) (is (with-clock s t)) not-allowed (λ d gn. absurd (none-some (sym gn ∙ f))) (λ d. tt))
+    go : (m : Move) → OnIs (Told-if-gone s p q (reason-of s m w)) (move g s m)
+    go (turn n) = turn-all g s n (OnIs (Told-if-gone s p q (reason-of s (turn n) w))) tt
+        (λ me o i j d v. turned-told g s n p q w me o (reached-sound g l s r) i j f a v)
+    go signal = signal-told s p q w f a
+    go tick = tick-all (Told-if-gone s p q (v-atom a-old)) (Unit {0}) s (λ t i gn. absurd (none-some (sym gn ∙ f)))

@@ -7,7 +7,9 @@ use Prim.Native.Nat.{ℕ}
 use lib.ListN.{length}
 use Rattle.meaning.specs.Basics.{opt, Name, listed}
 use Rattle.meaning.specs.Atoms.{a-main}
-use Rattle.meaning.specs.Syntax.{Pattern, p-any, p-var, p-int, p-atom, p-tuple, p-nil, p-cons, Patterns, no-p, and-p, Expr, int, atom, var, nil, apply, case, receive, receive-until, catch, Exprs, no-e, and-e, Body, last, bind, Clauses, no-c, clause, Function, Module, Program}
+use Rattle.meaning.specs.Syntax.{Pattern, p-any, p-var, p-int, p-atom, p-tuple, p-nil, p-cons, Patterns, no-p, and-p}
+use Rattle.meaning.specs.Syntax.{Expr, int, atom, var, nil, apply, case, receive, receive-until, catch, Exprs, no-e}
+use Rattle.meaning.specs.Syntax.{and-e, Body, last, bind, Clauses, no-c, clause, Function, Module, Program}
 use Rattle.meaning.specs.System.{function-of}
 
 -- the names bound behind a pattern, the newest first
@@ -59,7 +61,8 @@ no-function fs x n = opt (function-of fs x n) true (λ f. false)
 
 abbrev pub sound-functions : List Function → Bool
 sound-functions [] = true
-sound-functions (f ∷ fs) = no-function fs (f .name) (length (f .params)) && (all-different (f .params) && (bound-body (f .params) (f .body) && sound-functions fs))
+sound-functions (f ∷ fs) = no-function fs (f .name) (length (f .params)) &&
+    (all-different (f .params) && (bound-body (f .params) (f .body) && sound-functions fs))
 
 abbrev pub sound-modules : Program → Bool
 sound-modules [] = true

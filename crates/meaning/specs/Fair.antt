@@ -40,8 +40,8 @@ Waits-later s =
 -- the order l is fair from s on: to workers, to the oldest signal, and to the clock
 pub record Fair (g : Program) (s : System) (l : List Move) : Type 0 where
   pub turns : (a b c : List Move) (t : System) (q : ℕ) → l ≡ a ++ (b ++ c) → moves g s a ≡ is t →
-    All-through g t b (λ u. Could g u q) → Long g t b → In (turn q) b
+      All-through g t b (λ u. Could g u q) → Long g t b → In (turn q) b
   pub signals : (a b c : List Move) (t : System) → l ≡ a ++ (b ++ c) → moves g s a ≡ is t →
-    All-through g t b (λ u. u .signals ≡ [] → ⊥) → Long g t b → In signal b
+      All-through g t b (λ u. u .signals ≡ [] → ⊥) → Long g t b → In signal b
   pub times : (a b c : List Move) (t : System) → l ≡ a ++ (b ++ c) → moves g s a ≡ is t →
-    All-through g t b (λ u. Waits-later u) → Long g t b → In tick b
+      All-through g t b (λ u. Waits-later u) → Long g t b → In tick b

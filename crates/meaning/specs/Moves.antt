@@ -8,7 +8,9 @@ use Rattle.meaning.specs.Basics.{opt, on-some, Name}
 use Rattle.meaning.specs.Atoms.{a-normal, a-exit, a-main}
 use Rattle.meaning.specs.Syntax.{Module, Program}
 use Rattle.meaning.specs.Values.{Value, v-atom, v-tuple, v-pid, no-v, and-v, sameV}
-use Rattle.meaning.specs.System.{until, for-ever, Control, eval, give, enter, fail, wait, Worker, Signal, Loaded, System, with-signals, with-clock, find, on-worker, set-control, send-mail, unlink-both, ended, current}
+use Rattle.meaning.specs.System.{until, for-ever, Control, eval, give, enter, fail, wait, Worker, Signal, Loaded}
+use Rattle.meaning.specs.System.{System, with-signals, with-clock, find, on-worker, set-control, send-mail}
+use Rattle.meaning.specs.System.{unlink-both, ended, current}
 use Rattle.meaning.specs.Turns.{Outcome, goes-on, leaves, stuck, enter-function, turn-of, can}
 
 pub data Move : Type 0 where
@@ -33,12 +35,14 @@ abbrev pub exit-message : Signal → Value
 exit-message g = v-tuple (and-v (v-atom a-exit) (and-v (v-pid (g .from)) (and-v (g .reason) no-v)))
 
 abbrev pub take-signal : System → Signal → Worker → System
-take-signal s g w = cond (w .traps) (send-mail s (w .pid) (exit-message g)) (cond (sameV (g .reason) (v-atom a-normal)) (unlink-both s (w .pid) (g .from)) (ended s w (g .reason)))
+take-signal s g w = cond (w .traps) (send-mail s (w .pid) (exit-message g))
+    (cond (sameV (g .reason) (v-atom a-normal)) (unlink-both s (w .pid) (g .from)) (ended s w (g .reason)))
 
 -- the oldest signal; to nobody, if its worker is no more
 abbrev pub deliver : System → List Signal → Result
 deliver s [] = not-allowed
-deliver s (g ∷ gs) = opt (find (s .workers) (g .to)) (is (with-signals s gs)) (λ w. is (take-signal (with-signals s gs) g w))
+deliver s (g ∷ gs) = opt (find (s .workers) (g .to)) (is (with-signals s gs))
+    (λ w. is (take-signal (with-signals s gs) g w))
 
 -- the clock goes on to the first time for which somebody waits, if that is later
 abbrev pub time-of : Control → Option ℕ
@@ -59,7 +63,8 @@ first-time [] = none
 first-time (w ∷ ws) = sooner (time-of (w .control)) (first-time ws)
 
 abbrev pub clock-on : System → Result
-clock-on s = opt (first-time (s .workers)) not-allowed (λ t. cond (ltb (s .clock) t) (is (with-clock s t)) not-allowed)
+clock-on s = opt (first-time (s .workers)) not-allowed
+    (λ t. cond (ltb (s .clock) t) (is (with-clock s t)) not-allowed)
 
 abbrev pub move : Program → System → Move → Result
 move g s (turn n) = opt (find (s .workers) n) not-allowed (λ w. opt (turn-of g s w) not-allowed (settle n))
@@ -86,16 +91,26 @@ no-signals [] = true
 no-signals (x ∷ xs) = false
 
 abbrev pub quiet : Program → System → Bool
-quiet g s = no-signals (s .signals) && (not (any-can g s (s .workers)) && opt (first-time (s .workers)) true (λ t. leb t (s .clock)))
+quiet g s = no-signals (s .signals)
+    && (not (any-can g s (s .workers)) && opt (first-time (s .workers)) true (λ t. leb t (s .clock)))
 
 -- at first every module is loaded in its version 1, and one worker begins with `main` of the first module
 abbrev pub first-versions : Program → List Loaded → List Loaded
 first-versions [] ls = ls
-first-versions (m ∷ ms) ls = first-versions ms (opt (current ls (m .name)) (ls ++ (record { name = m .name; version = 1 } ∷ [])) (λ n. ls))
+first-versions (m ∷ ms) ls = first-versions ms
+    (opt (current ls (m .name)) (ls ++ (record { name = m .name; version = 1 } ∷ [])) (λ n. ls))
 
 abbrev pub first-name : Program → Name
 first-name [] = []
 first-name (m ∷ ms) = m .name
 
 abbrev pub begin : Program → Option System
-begin g = on-some (enter-function g (first-name g) 1 a-main []) (λ c. some (record { workers = record { pid = 0; control = c; frames = []; mail = []; links = []; traps = false } ∷ []; next = 1; clock = 0; loaded = first-versions g []; names = []; signals = []; shown = [] }))
+begin g = on-some (enter-function g (first-name g) 1 a-main []) (λ c. some (record {
+  workers = record { pid = 0; control = c; frames = []; mail = []; links = []; traps = false } ∷ [];
+  next = 1;
+  clock = 0;
+  loaded = first-versions g [];
+  names = [];
+  signals = [];
+  shown = [];
+}))

@@ -11,7 +11,9 @@ use Rattle.meaning.specs.Basics.{Name, same}
 use Rattle.meaning.specs.Atoms.{a-normal, a-old}
 use Rattle.meaning.specs.Syntax.{Program}
 use Rattle.meaning.specs.Values.{Value, v-atom}
-use Rattle.meaning.specs.System.{Scope, Control, eval, give, enter, fail, wait, Frame, operands-frame, bind-frame, case-frame, until-frame, catch-frame, Worker, Signal, System, with-clock, find, current, pid-of, among, old}
+use Rattle.meaning.specs.System.{Scope, Control, eval, give, enter, fail, wait, Frame, operands-frame, bind-frame}
+use Rattle.meaning.specs.System.{case-frame, until-frame, catch-frame, Worker, Signal, System, with-clock, find}
+use Rattle.meaning.specs.System.{current, pid-of, among, old}
 use Rattle.meaning.specs.Turns.{can}
 use Rattle.meaning.specs.Moves.{Move, turn, signal, tick, is, no-meaning, move, moves, quiet, time-of, begin}
 use Rattle.meaning.specs.Grammar.{Reads}
@@ -143,7 +145,7 @@ Newly-able =
     move g s (turn n) ≡ is t → (q ≡ n → ⊥) → find (t .workers) q ≡ some x → can g t x ≡ true →
     (q ≡ s .next)
     ⊎ ((w : Worker) × (find (s .workers) q ≡ some w)
-       × ((can g s w ≡ true) ⊎ ((v : Value) × (x .mail ≡ w .mail ++ (v ∷ [])))))
+    × ((can g s w ≡ true) ⊎ ((v : Value) × (x .mail ≡ w .mail ++ (v ∷ [])))))
 
 -- where somebody waits for a time, and nobody's time has come, the clock can go on, to no later than that time
 abbrev pub Clock-goes : Type 0

@@ -26,6 +26,7 @@ pub data Mode : Type 0 where
 -- would not be fair, since what is done between two slices counts too
 abbrev pub slice : ℕ
 slice = 2048
+
 abbrev pub batch : ℕ
 batch = 1024
 
@@ -33,6 +34,7 @@ batch = 1024
 pub data At (x : Entry) : ℕ → List Entry → Type 0 where
   here : {es : List Entry} → At x zero (x ∷ es)
   there : {n : ℕ} {y : Entry} {es : List Entry} → At x n es → At x (suc n) (y ∷ es)
+
 abbrev pub Mem : Entry → List Entry → Type 0
 Mem x es = (n : ℕ) × At x n es
 
@@ -88,22 +90,23 @@ pub data After (p k : ℕ) : Mode → Type 0 where
 -- one step of the scheduler, by no move or by one
 pub data Step (g : Program) (s : System) : Mode → List Entry → List Move → System → Mode → List Entry → Type 0 where
   by-turn : {t : System} {p k : ℕ} {m : Mode} {es fs : List Entry} (new : List Entry) → move g s (turn p) ≡ is t →
-    Kept t es fs → After p k m → Step g s (serve p (suc k)) es (turn p ∷ []) t m (fs ++ new)
+      Kept t es fs → After p k m → Step g s (serve p (suc k)) es (turn p ∷ []) t m (fs ++ new)
   by-signal : {t : System} {k : ℕ} {es fs : List Entry} (new : List Entry) → move g s signal ≡ is t →
-    Kept t es fs → Step g s (flush (suc k)) es (signal ∷ []) t (flush k) (fs ++ new)
+      Kept t es fs → Step g s (flush (suc k)) es (signal ∷ []) t (flush k) (fs ++ new)
   by-tick : {t : System} {k : ℕ} {es : List Entry} (new : List Entry) → Idle s k → move g s tick ≡ is t →
-    Step g s (flush k) (round ∷ es) (tick ∷ []) t (flush batch) (es ++ new)
+      Step g s (flush k) (round ∷ es) (tick ∷ []) t (flush batch) (es ++ new)
   -- a round ends where nobody waits for a later time
   by-round : {k : ℕ} {es : List Entry} → Idle s k → (Waits-later s → ⊥) →
-    Step g s (flush k) (round ∷ es) [] s (flush batch) (es ++ (round ∷ []))
+      Step g s (flush k) (round ∷ es) [] s (flush batch) (es ++ (round ∷ []))
   by-pop : {k p : ℕ} (n : ℕ) {es : List Entry} → Idle s k → n ≤ slice →
-    Step g s (flush k) (worker p ∷ es) [] s (serve p n) es
+      Step g s (flush k) (worker p ∷ es) [] s (serve p n) es
 
 -- steps one after the other, the queue exact after each
-pub data Steps (g : Program) (s₀ : System) (m₀ : Mode) (es₀ : List Entry) : List Move → System → Mode → List Entry → Type 0 where
+pub data Steps (g : Program) (s₀ : System) (m₀ : Mode) (es₀ : List Entry) : List Move → System → Mode → List Entry →
+    Type 0 where
   start : Steps g s₀ m₀ es₀ [] s₀ m₀ es₀
   and-step : {l x : List Move} {s t : System} {m n : Mode} {es fs : List Entry} → Steps g s₀ m₀ es₀ l s m es →
-    Step g s m es x t n fs → Queues g t n fs → Steps g s₀ m₀ es₀ (l ++ x) t n fs
+      Step g s m es x t n fs → Queues g t n fs → Steps g s₀ m₀ es₀ (l ++ x) t n fs
 
 -- numbers are apart, and below the next one
 abbrev pub Numbered : System → Type 0

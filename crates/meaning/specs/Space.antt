@@ -3,7 +3,8 @@ use mathlib.Core.List.{List, [], _∷_}
 use Prim.Native.Nat.{ℕ, _+_, _*_}
 use lib.ListN.{length}
 use Rattle.meaning.specs.Values.{Value, v-int, v-atom, v-tuple, v-nil, v-cons, v-pid, Values, no-v, and-v, Binding}
-use Rattle.meaning.specs.System.{Scope, Control, eval, give, enter, fail, wait, Frame, operands-frame, bind-frame, case-frame, until-frame, catch-frame, Worker, Signal, System}
+use Rattle.meaning.specs.System.{Scope, Control, eval, give, enter, fail, wait, Frame, operands-frame, bind-frame}
+use Rattle.meaning.specs.System.{case-frame, until-frame, catch-frame, Worker, Signal, System}
 
 abbrev mutual
   pub sizeV : Value → ℕ
@@ -48,7 +49,8 @@ size-frames [] = 0
 size-frames (f ∷ fs) = size-frame f + size-frames fs
 
 abbrev pub size-worker : Worker → ℕ
-size-worker w = (32 + size-control (w .control)) + (size-frames (w .frames) + (size-values (w .mail) + 4 * length (w .links)))
+size-worker w = (32 + size-control (w .control)) +
+    (size-frames (w .frames) + (size-values (w .mail) + 4 * length (w .links)))
 
 abbrev pub size-workers : List Worker → ℕ
 size-workers [] = 0

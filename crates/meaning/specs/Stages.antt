@@ -4,7 +4,11 @@ use mathlib.Core.Bool.{Bool, true, false, _||_, cond}
 use mathlib.Core.List.{List, [], _∷_}
 use Prim.Native.Nat.{ℕ, max}
 use Rattle.meaning.specs.Basics.{Name, same}
-use Rattle.meaning.specs.Syntax.{Pattern, p-any, p-var, p-int, p-atom, p-tuple, p-nil, p-cons, Patterns, no-p, and-p, Builtin, send, self, link, exit, trap, show, register, whereis, swap, Operation, make-tuple, make-pair, call, far-call, spawn, far-spawn, operate, built-in, Expr, int, atom, var, nil, apply, case, receive, receive-until, catch, Exprs, no-e, and-e, Body, last, bind, Clauses, no-c, clause, Function, Module, Program}
+use Rattle.meaning.specs.Syntax.{Pattern, p-any, p-var, p-int, p-atom, p-tuple, p-nil, p-cons, Patterns, no-p, and-p}
+use Rattle.meaning.specs.Syntax.{Builtin, send, self, link, exit, trap, show, register, whereis, swap, Operation}
+use Rattle.meaning.specs.Syntax.{make-tuple, make-pair, call, far-call, spawn, far-spawn, operate, built-in, Expr}
+use Rattle.meaning.specs.Syntax.{int, atom, var, nil, apply, case, receive, receive-until, catch, Exprs, no-e, and-e}
+use Rattle.meaning.specs.Syntax.{Body, last, bind, Clauses, no-c, clause, Function, Module, Program}
 
 abbrev mutual
   pub stage-pattern : Pattern → ℕ
@@ -77,7 +81,8 @@ has-module (m ∷ ms) x = same (m .name) x || has-module ms x
 -- a second section of one name is stage 6
 abbrev pub stage-modules : Program → ℕ
 stage-modules [] = 0
-stage-modules (m ∷ ms) = max (stage-functions (m .functions)) (max (stage-modules ms) (cond (has-module ms (m .name)) 6 0))
+stage-modules (m ∷ ms) = max (stage-functions (m .functions))
+    (max (stage-modules ms) (cond (has-module ms (m .name)) 6 0))
 
 -- more than one section is stage 4
 abbrev pub stage : Program → ℕ

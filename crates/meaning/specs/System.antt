@@ -76,25 +76,74 @@ pub record System : Type 0 where
 
 -- a system with one part changed
 abbrev pub with-workers : System → List Worker → System
-with-workers s ws = record { workers = ws; next = s .next; clock = s .clock; loaded = s .loaded; names = s .names; signals = s .signals; shown = s .shown }
+with-workers s ws = record {
+  workers = ws;
+  next = s .next;
+  clock = s .clock;
+  loaded = s .loaded;
+  names = s .names;
+  signals = s .signals;
+  shown = s .shown;
+}
 
 abbrev pub with-signals : System → List Signal → System
-with-signals s gs = record { workers = s .workers; next = s .next; clock = s .clock; loaded = s .loaded; names = s .names; signals = gs; shown = s .shown }
+with-signals s gs = record {
+  workers = s .workers;
+  next = s .next;
+  clock = s .clock;
+  loaded = s .loaded;
+  names = s .names;
+  signals = gs;
+  shown = s .shown;
+}
 
 abbrev pub with-clock : System → ℕ → System
-with-clock s t = record { workers = s .workers; next = s .next; clock = t; loaded = s .loaded; names = s .names; signals = s .signals; shown = s .shown }
+with-clock s t = record {
+  workers = s .workers;
+  next = s .next;
+  clock = t;
+  loaded = s .loaded;
+  names = s .names;
+  signals = s .signals;
+  shown = s .shown;
+}
 
 -- one line more shown
 abbrev pub with-line : System → List ℕ → System
-with-line s l = record { workers = s .workers; next = s .next; clock = s .clock; loaded = s .loaded; names = s .names; signals = s .signals; shown = s .shown ++ (l ∷ []) }
+with-line s l = record {
+  workers = s .workers;
+  next = s .next;
+  clock = s .clock;
+  loaded = s .loaded;
+  names = s .names;
+  signals = s .signals;
+  shown = s .shown ++ (l ∷ []);
+}
 
 -- a name taken by a worker
 abbrev pub with-name : System → Name → ℕ → System
-with-name s x n = record { workers = s .workers; next = s .next; clock = s .clock; loaded = s .loaded; names = record { name = x; pid = n } ∷ s .names; signals = s .signals; shown = s .shown }
+with-name s x n = record {
+  workers = s .workers;
+  next = s .next;
+  clock = s .clock;
+  loaded = s .loaded;
+  names = record { name = x; pid = n } ∷ s .names;
+  signals = s .signals;
+  shown = s .shown;
+}
 
 -- a worker that begins, with the next number
 abbrev pub with-new : System → Control → System
-with-new s c = record { workers = s .workers ++ (record { pid = s .next; control = c; frames = []; mail = []; links = []; traps = false } ∷ []); next = s .next + 1; clock = s .clock; loaded = s .loaded; names = s .names; signals = s .signals; shown = s .shown }
+with-new s c = record {
+  workers = s .workers
+      ++ (record { pid = s .next; control = c; frames = []; mail = []; links = []; traps = false } ∷ []);
+  next = s .next + 1;
+  clock = s .clock;
+  loaded = s .loaded;
+  names = s .names;
+  signals = s .signals;
+  shown = s .shown;
+}
 
 -- workers by number
 abbrev pub find : List Worker → ℕ → Option Worker
@@ -120,19 +169,47 @@ Apart (w ∷ ws) = (find ws (w .pid) ≡ none) × Apart ws
 
 -- a worker with one part changed
 abbrev pub set-control : Control → List Frame → Worker → Worker
-set-control c k w = record { pid = w .pid; control = c; frames = k; mail = w .mail; links = w .links; traps = w .traps }
+set-control c k w = record {
+  pid = w .pid;
+  control = c;
+  frames = k;
+  mail = w .mail;
+  links = w .links;
+  traps = w .traps;
+}
 
 abbrev pub set-mail : List Value → Worker → Worker
-set-mail m w = record { pid = w .pid; control = w .control; frames = w .frames; mail = m; links = w .links; traps = w .traps }
+set-mail m w = record {
+  pid = w .pid;
+  control = w .control;
+  frames = w .frames;
+  mail = m;
+  links = w .links;
+  traps = w .traps;
+}
 
 abbrev pub add-mail : Value → Worker → Worker
 add-mail v w = set-mail (w .mail ++ (v ∷ [])) w
 
 abbrev pub set-links : List ℕ → Worker → Worker
-set-links ls w = record { pid = w .pid; control = w .control; frames = w .frames; mail = w .mail; links = ls; traps = w .traps }
+set-links ls w = record {
+  pid = w .pid;
+  control = w .control;
+  frames = w .frames;
+  mail = w .mail;
+  links = ls;
+  traps = w .traps;
+}
 
 abbrev pub set-traps : Bool → Worker → Worker
-set-traps b w = record { pid = w .pid; control = w .control; frames = w .frames; mail = w .mail; links = w .links; traps = b }
+set-traps b w = record {
+  pid = w .pid;
+  control = w .control;
+  frames = w .frames;
+  mail = w .mail;
+  links = w .links;
+  traps = b;
+}
 
 abbrev pub among : ℕ → List ℕ → Bool
 among x [] = false
@@ -174,12 +251,21 @@ told from r (l ∷ ls) = record { to = l; from = from; reason = r } ∷ told fro
 
 -- a worker ends: it is no more, its names are free, and those linked to it are told, behind all signals that were there
 abbrev pub ended : System → Worker → Value → System
-ended s w r = record { workers = gone (s .workers) (w .pid); next = s .next; clock = s .clock; loaded = s .loaded; names = unnamed (s .names) (w .pid); signals = s .signals ++ told (w .pid) r (w .links); shown = s .shown }
+ended s w r = record {
+  workers = gone (s .workers) (w .pid);
+  next = s .next;
+  clock = s .clock;
+  loaded = s .loaded;
+  names = unnamed (s .names) (w .pid);
+  signals = s .signals ++ told (w .pid) r (w .links);
+  shown = s .shown;
+}
 
 -- code by module, version, name and number of parameters
 abbrev pub functions-of : Program → Name → ℕ → Option (List Function)
 functions-of [] x n = none
-functions-of (m ∷ ms) x n = cond (same (m .name) x) (cond (eqb n 1) (some (m .functions)) (functions-of ms x (pred n))) (functions-of ms x n)
+functions-of (m ∷ ms) x n = cond (same (m .name) x)
+    (cond (eqb n 1) (some (m .functions)) (functions-of ms x (pred n))) (functions-of ms x n)
 
 abbrev pub function-of : List Function → Name → ℕ → Option Function
 function-of [] x n = none
@@ -229,7 +315,15 @@ end-old (w ∷ ws) x n s = end-old ws x n (cond (old x n w) (ended s w (v-atom a
 
 -- version n of a module becomes current
 abbrev pub with-version : System → Name → ℕ → System
-with-version s x n = record { workers = s .workers; next = s .next; clock = s .clock; loaded = now-loaded (s .loaded) x n; names = s .names; signals = s .signals; shown = s .shown }
+with-version s x n = record {
+  workers = s .workers;
+  next = s .next;
+  clock = s .clock;
+  loaded = now-loaded (s .loaded) x n;
+  names = s .names;
+  signals = s .signals;
+  shown = s .shown;
+}
 
 -- the version after n becomes current, and what is at work in one older than n ends
 abbrev pub swapped : System → Name → ℕ → System

@@ -41,7 +41,10 @@ cut o m = record { out = o; then = m }
 
 -- a byte where no token is open; o is what it completed
 abbrev pub fresh : List Name → ℕ → Cut
-fresh o c = cond (is-blank c) (cut o gap) (cond (eqb c 35) (cut o comment) (cond (is-letter c) (cut o (word (c ∷ []))) (cond (begins-sign c) (cut o (sign c)) (cut (o ++ ((c ∷ []) ∷ [])) gap))))
+fresh o c = cond (is-blank c) (cut o gap)
+    (cond (eqb c 35) (cut o comment)
+    (cond (is-letter c) (cut o (word (c ∷ [])))
+    (cond (begins-sign c) (cut o (sign c)) (cut (o ++ ((c ∷ []) ∷ [])) gap))))
 
 abbrev pub next-byte : Lexing → ℕ → Cut
 next-byte gap c = fresh [] c

@@ -7,10 +7,20 @@ use lib.ListN.{length}
 use lib.IntN.{ℤ, pos, negsuc, _+ℤ_, _-ℤ_, _*ℤ_}
 use lib.Dec.{eqb, leb}
 use Rattle.meaning.specs.Basics.{opt, on-some, Name}
-use Rattle.meaning.specs.Atoms.{a-type, a-match, a-clause, a-zero, a-big, a-undef, a-normal, a-gone, a-ok, a-error, a-none, a-true, a-false}
-use Rattle.meaning.specs.Syntax.{Pattern, Operator, plus, minus, times, divide, modulo, equal, unequal, less, at-most, Builtin, send, self, link, exit, trap, show, register, whereis, swap, Operation, make-tuple, make-pair, call, far-call, spawn, far-spawn, operate, built-in, Expr, int, atom, var, nil, apply, case, receive, receive-until, catch, Exprs, no-e, and-e, Body, last, bind, Clauses, no-c, clause, Function, Program}
-use Rattle.meaning.specs.Values.{Value, v-int, v-atom, v-tuple, v-nil, v-cons, v-pid, no-v, and-v, as-int, as-atom, as-pid, sameV, less-int, tuple, Binding, look-up, match, textV, fits, quotient, remainder, is-zero}
-use Rattle.meaning.specs.System.{Scope, Until, for-ever, until, Control, eval, give, enter, fail, wait, Frame, operands-frame, bind-frame, case-frame, until-frame, catch-frame, Worker, System, with-line, with-name, with-new, find, on-worker, set-mail, set-traps, send-mail, link-both, send-signal, ended, functions-of, function-of, current, pid-of, swapped}
+use Rattle.meaning.specs.Atoms.{a-type, a-match, a-clause, a-zero, a-big, a-undef, a-normal, a-gone, a-ok, a-error}
+use Rattle.meaning.specs.Atoms.{a-none, a-true, a-false}
+use Rattle.meaning.specs.Syntax.{Pattern, Operator, plus, minus, times, divide, modulo, equal, unequal, less, at-most}
+use Rattle.meaning.specs.Syntax.{Builtin, send, self, link, exit, trap, show, register, whereis, swap, Operation}
+use Rattle.meaning.specs.Syntax.{make-tuple, make-pair, call, far-call, spawn, far-spawn, operate, built-in, Expr}
+use Rattle.meaning.specs.Syntax.{int, atom, var, nil, apply, case, receive, receive-until, catch, Exprs, no-e, and-e}
+use Rattle.meaning.specs.Syntax.{Body, last, bind, Clauses, no-c, clause, Function, Program}
+use Rattle.meaning.specs.Values.{Value, v-int, v-atom, v-tuple, v-nil, v-cons, v-pid, no-v, and-v, as-int, as-atom}
+use Rattle.meaning.specs.Values.{as-pid, sameV, less-int, tuple, Binding, look-up, match, textV, fits, quotient}
+use Rattle.meaning.specs.Values.{remainder, is-zero}
+use Rattle.meaning.specs.System.{Scope, Until, for-ever, until, Control, eval, give, enter, fail, wait, Frame}
+use Rattle.meaning.specs.System.{operands-frame, bind-frame, case-frame, until-frame, catch-frame, Worker, System}
+use Rattle.meaning.specs.System.{with-line, with-name, with-new, find, on-worker, set-mail, set-traps, send-mail}
+use Rattle.meaning.specs.System.{link-both, send-signal, ended, functions-of, function-of, current, pid-of, swapped}
 
 -- what a turn leads to: the worker goes on, with a control and frames; it is no more; or there is no meaning
 pub data Outcome : Type 0 where
@@ -50,7 +60,10 @@ keep-front v (some t) = some (record { chosen = t .chosen; rest = v ∷ t .rest 
 
 abbrev pub take-first : Clauses → List Binding → List Value → Option Taken
 take-first cs bs [] = none
-take-first cs bs (m ∷ ms) = opt (choose cs m bs) (keep-front m (take-first cs bs ms)) (λ c. some (record { chosen = c; rest = ms }))
+take-first cs bs (m ∷ ms) = opt (choose cs m bs) (keep-front m (take-first cs bs ms)) (λ c. some (record {
+  chosen = c;
+  rest = ms;
+}))
 
 abbrev pub rebind : Scope → List Binding → Scope
 rebind w bs = record { vars = bs; home = w .home; version = w .version }
@@ -62,7 +75,12 @@ bind-params (x ∷ xs) (v ∷ vs) = record { name = x; value = v } ∷ bind-para
 
 -- a function's body on arguments: of a module in a given version, or in the current one
 abbrev pub enter-function : Program → Name → ℕ → Name → List Value → Option Control
-enter-function g m n f vs = on-some (functions-of g m n) (λ fs. on-some (function-of fs f (length vs)) (λ fn. some (enter (fn .body) (record { vars = bind-params (fn .params) vs; home = m; version = n }))))
+enter-function g m n f vs = on-some (functions-of g m n)
+    (λ fs. on-some (function-of fs f (length vs)) (λ fn. some (enter (fn .body) (record {
+      vars = bind-params (fn .params) vs;
+      home = m;
+      version = n;
+    }))))
 
 abbrev pub enter-current : Program → System → Name → Name → List Value → Option Control
 enter-current g s m f vs = on-some (current (s .loaded) m) (λ n. enter-function g m n f vs)
@@ -113,7 +131,8 @@ link-found k s me q none = gives k (send-signal s me q (v-atom a-gone)) (v-atom 
 link-found k s me q (some w) = gives k (link-both s me q) (v-atom a-ok)
 
 abbrev pub link-to : List Frame → System → ℕ → Value → Outcome
-link-to k s me v = opt (as-pid v) (error k s a-type) (λ q. cond (eqb q me) (gives k s (v-atom a-ok)) (link-found k s me q (find (s .workers) q)))
+link-to k s me v = opt (as-pid v) (error k s a-type)
+    (λ q. cond (eqb q me) (gives k s (v-atom a-ok)) (link-found k s me q (find (s .workers) q)))
 
 -- exit(w, r): a signal with r
 abbrev pub exit-to : List Frame → System → ℕ → Value → Value → Outcome
@@ -131,7 +150,8 @@ abbrev pub after-swap : List Frame → ℕ → System → Outcome
 after-swap k me s = opt (find (s .workers) me) (leaves s) (λ w. gives k s (v-atom a-ok))
 
 abbrev pub swap-module : Program → List Frame → System → ℕ → Name → Outcome
-swap-module g k s me x = opt (current (s .loaded) x) (error k s a-undef) (λ n. opt (functions-of g x (n + 1)) (gives k s (v-atom a-none)) (λ fs. after-swap k me (swapped s x n)))
+swap-module g k s me x = opt (current (s .loaded) x) (error k s a-undef)
+    (λ n. opt (functions-of g x (n + 1)) (gives k s (v-atom a-none)) (λ fs. after-swap k me (swapped s x n)))
 
 abbrev pub swap-to : Program → List Frame → System → ℕ → Value → Outcome
 swap-to g k s me v = opt (as-atom v) (error k s a-type) (swap-module g k s me)
@@ -224,8 +244,10 @@ wait-until k s cs b w (negsuc n) = error k s a-type
 abbrev pub resume : Program → System → Worker → Value → List Frame → Outcome
 resume g s me v [] = leaves (ended s me (v-atom a-normal))
 resume g s me v (operands-frame o vs es w ∷ k) = operands g k s (me .pid) w o (vs ++ (v ∷ [])) es
-resume g s me v (bind-frame p b w ∷ k) = opt (match p v (w .vars)) (error k s a-match) (λ bs. goes-on (enter b (rebind w bs)) k s)
-resume g s me v (case-frame cs w ∷ k) = opt (choose cs v (w .vars)) (error k s a-clause) (λ c. goes-on (enter (c .body) (rebind w (c .vars))) k s)
+resume g s me v (bind-frame p b w ∷ k) =
+    opt (match p v (w .vars)) (error k s a-match) (λ bs. goes-on (enter b (rebind w bs)) k s)
+resume g s me v (case-frame cs w ∷ k) = opt (choose cs v (w .vars)) (error k s a-clause)
+    (λ c. goes-on (enter (c .body) (rebind w (c .vars))) k s)
 resume g s me v (until-frame cs b w ∷ k) = opt (as-int v) (error k s a-type) (wait-until k s cs b w)
 resume g s me v (catch-frame ∷ k) = gives k s (pair (v-atom a-ok) v)
 
@@ -244,7 +266,9 @@ timed-out s k for-ever w = none
 timed-out s k (until t b) w = cond (leb t (s .clock)) (some (goes-on (enter b w) k s)) none
 
 abbrev pub look-at-mail : System → Worker → Clauses → Until → Scope → Option Outcome
-look-at-mail s me cs u w = opt (take-first cs (w .vars) (me .mail)) (timed-out s (me .frames) u w) (λ t. some (goes-on (enter (t .chosen .body) (rebind w (t .chosen .vars))) (me .frames) (on-worker s (me .pid) (set-mail (t .rest)))))
+look-at-mail s me cs u w = opt (take-first cs (w .vars) (me .mail)) (timed-out s (me .frames) u w)
+    (λ t. some (goes-on (enter (t .chosen .body) (rebind w (t .chosen .vars))) (me .frames)
+    (on-worker s (me .pid) (set-mail (t .rest)))))
 
 abbrev pub turn-with : Program → System → Worker → Control → Option Outcome
 turn-with g s me (eval e w) = some (evaluate g (me .frames) s (me .pid) e w)

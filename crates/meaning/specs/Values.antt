@@ -109,7 +109,8 @@ abbrev mutual
 
   pub sameVs : Values → Values → Bool
   sameVs no-v ws = opt (first-of ws) true (λ t. false)
-  sameVs (and-v v vs) ws = opt (first-of ws) false (λ t. sameV v (t .head) && opt (as-tuple (t .tail)) false (λ us. sameVs vs us))
+  sameVs (and-v v vs) ws = opt (first-of ws) false
+      (λ t. sameV v (t .head) && opt (as-tuple (t .tail)) false (λ us. sameVs vs us))
 
 abbrev pub tuple : List Value → Values
 tuple [] = no-v
@@ -137,7 +138,8 @@ abbrev mutual
 
   pub matches : Patterns → Values → List Binding → Option (List Binding)
   matches no-p vs bs = opt (first-of vs) (some bs) (λ t. none)
-  matches (and-p p ps) vs bs = on-some (first-of vs) (λ t. on-some (match p (t .head) bs) (λ cs. on-some (as-tuple (t .tail)) (λ us. matches ps us cs)))
+  matches (and-p p ps) vs bs = on-some (first-of vs)
+      (λ t. on-some (match p (t .head) bs) (λ cs. on-some (as-tuple (t .tail)) (λ us. matches ps us cs)))
 
 -- the text of a value: digits; atoms as they are; tuples {a,b,}; lists [a|[b|[]]]; workers <3>
 abbrev pub digits : ℕ → ℕ → List ℕ → List ℕ

@@ -1,4 +1,4 @@
-use Rattle.meaning.proofs.Parts.{alone}
+use Rattle.meaning.proofs.Alone.{alone}
 use Rattle.meaning.proofs.theorems.alone.Needs as need
 
 pub returns : need.returns

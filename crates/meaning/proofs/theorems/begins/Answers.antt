@@ -1,4 +1,4 @@
-use Rattle.meaning.proofs.Parts.{begins}
+use Rattle.meaning.proofs.Results.{begins}
 use Rattle.meaning.proofs.theorems.begins.Needs as need
 
 pub returns : need.returns

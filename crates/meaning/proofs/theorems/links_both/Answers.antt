@@ -1,4 +1,4 @@
-use Rattle.meaning.proofs.Parts.{links-both}
+use Rattle.meaning.proofs.Links.{links-both}
 use Rattle.meaning.proofs.theorems.links_both.Needs as need
 
 pub returns : need.returns

@@ -1,4 +1,4 @@
-use Rattle.meaning.proofs.Meant.{never-stuck}
+use Rattle.meaning.proofs.NeverStuck.{never-stuck}
 use Rattle.meaning.proofs.theorems.never_stuck.Needs as need
 
 pub returns : need.returns
