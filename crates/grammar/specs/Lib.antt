@@ -9,3 +9,4 @@ pub mod Machine
 pub mod Reading
 pub mod Promise
 pub mod Examples
+pub mod WorkedTexts

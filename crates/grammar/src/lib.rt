@@ -3,6 +3,7 @@
 ghost use Rattle.meaning.specs.Promise.{One-program};
 ghost use Rattle.meaning.specs.Grammar.{Reads};
 ghost use Rattle.grammar.specs.Promise.{Parse-exactly, Read-exactly, No-program};
+ghost use Rattle.grammar.specs.WorkedTexts.{Worked-texts};
 ghost use Rattle.grammar.specs.Examples.{echo-text, echo-program, sums-text, sums-program, compared-text};
 
 /// A text is at most one program.
@@ -25,6 +26,13 @@ pub fn examples_read() -> u8
     ensures echo { λ _. ⌜ Reads echo-text echo-program ⌝ }
     ensures sums { λ _. ⌜ Reads sums-text sums-program ⌝ }
     ensures refused { λ _. ⌜ No-program compared-text ⌝ }
+{
+    0
+}
+
+/// Five texts are the programs that they should be, show what they should, and end.
+pub fn worked_texts() -> u8
+    ensures { λ _. ⌜ Worked-texts ⌝ }
 {
     0
 }
