@@ -1,3 +1,4 @@
 pub mod Shapes
 pub mod Comparing
 pub mod Counting
+pub mod Walking

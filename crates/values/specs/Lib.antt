@@ -3,4 +3,7 @@
 pub mod Encoding
 pub mod Shape
 pub mod Compare
+pub mod Names
+pub mod Text
+pub mod Walk
 pub mod Space

@@ -1,10 +1,14 @@
 //! Values of the language as trees of the store: their outermost parts, whether two are the same, and their text.
 
 mod equality;
+mod names;
+mod piece;
 mod space;
 mod value;
+mod walk;
 
 pub use equality::same_value;
+pub use names::Names;
 pub use space::bindings_cells;
 pub use space::chain_cells;
 pub use space::value_cells;

@@ -40,22 +40,24 @@ pub enum Value {
     EmptyTuple,
     Tuple(Slot),
     Pair(Slot),
+    /// A slot of a kind that no value has.
+    Unknown(Slot),
 }
 
 impl Value {
-    /// The outermost part of the value that the slot holds, if it holds one.
-    pub fn from_slot(slot: Slot) -> Option<Value>
+    /// The outermost part of the value that the slot holds.
+    pub fn from_slot(slot: Slot) -> Value
         ensures { λ r. ⌜ Views slot r ⌝ }
     {
         match slot.kind {
-            NUMBER => Some(Value::Number(joined(slot.low, slot.high).cast_signed())),
-            ATOM => Some(Value::Atom(Atom(slot.low))),
-            NIL => Some(Value::Nil),
-            WORKER => Some(Value::Worker(WorkerId(joined(slot.low, slot.high)))),
-            EMPTY_TUPLE => Some(Value::EmptyTuple),
-            PAIR => Some(Value::Pair(slot)),
-            TUPLE => Some(Value::Tuple(slot)),
-            _ => None,
+            NUMBER => Value::Number(joined(slot.low, slot.high).cast_signed()),
+            ATOM => Value::Atom(Atom(slot.low)),
+            NIL => Value::Nil,
+            WORKER => Value::Worker(WorkerId(joined(slot.low, slot.high))),
+            EMPTY_TUPLE => Value::EmptyTuple,
+            PAIR => Value::Pair(slot),
+            TUPLE => Value::Tuple(slot),
+            _ => Value::Unknown(slot),
         }
     }
 
@@ -83,19 +85,20 @@ impl Value {
             },
             Value::Tuple(node) => node,
             Value::Pair(node) => node,
+            Value::Unknown(slot) => slot,
         }
     }
 }
 
 /// The 64 bits of a leaf.
-fn joined(low: u32, high: u32) -> u64
+pub fn joined(low: u32, high: u32) -> u64
     ensures { λ r. ⌜ r ≡ low + 2 ^ 32 * high ⌝ }
 {
     u64::from(low) + (1 << 32) * u64::from(high)
 }
 
 /// The leaf of 64 bits.
-fn number(kind: u32, n: u64) -> Slot
+pub fn number(kind: u32, n: u64) -> Slot
     ensures { λ r. ⌜ (r .kind ≡ kind) × (r .low ≡ n % 2 ^ 32) × (r .high ≡ n / 2 ^ 32) ⌝ }
 {
     Slot {
