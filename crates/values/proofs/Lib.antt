@@ -2,3 +2,5 @@ pub mod Shapes
 pub mod Comparing
 pub mod Counting
 pub mod Walking
+pub mod Outputs
+pub mod Decimals

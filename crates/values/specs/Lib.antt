@@ -6,4 +6,5 @@ pub mod Compare
 pub mod Names
 pub mod Text
 pub mod Walk
+pub mod Output
 pub mod Space

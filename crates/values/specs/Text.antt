@@ -28,13 +28,16 @@ use Rattle.values.specs.declared.walk.Unprinted.the-variants.{TooLong, TooDeep
 abbrev pub closed : ℕ → List ℕ
 closed n = replicate n 93
 
+abbrev pub workerText : ℕ → List ℕ
+workerText n = 60 ∷ (decimal (pos n) ++ (62 ∷ []))
+
 abbrev pub pieceText : List Name → Piece → List ℕ
 pieceText ns (Sign a) = a ∷ []
 pieceText ns (Signs a b) = a ∷ b ∷ []
 pieceText ns (Closing n) = closed n
 pieceText ns (Number z) = decimal z
 pieceText ns (Atom a) = nameAt ns (a .0)
-pieceText ns (Worker w) = 60 ∷ (decimal (pos (w .0)) ++ (62 ∷ []))
+pieceText ns (Worker w) = workerText (w .0)
 
 -- how deep a tree is nested: steps to the left, since the way to the right is a loop
 abbrev pub nesting : Tree → ℕ

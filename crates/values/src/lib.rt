@@ -1,5 +1,6 @@
 //! Values of the language as trees of the store: their outermost parts, whether two are the same, and their text.
 
+mod digits;
 mod equality;
 mod names;
 mod piece;
