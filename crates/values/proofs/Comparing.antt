@@ -10,9 +10,6 @@ use lib.Dec.{eqb}
 use borrow.Author.Tests.{eq-eqb, ne-eqb, eqb-true, ltb-true}
 use Rattle.std.proofs.shelf.Tests.{and-parts, and-from}
 use Rattle.meaning.specs.Basics.{Name, same}
-use Rattle.store.specs.Tree.{sameTree}
-use Rattle.values.specs.Encoding.{indexOf, Known, bits64, treeV, treeVs, Fine, Fines}
-use Rattle.meaning.proofs.Splits.{T-of, no-clash, same-is, same-refl}
 use Rattle.meaning.specs.Values.{
   Value,
   v-int,
@@ -29,6 +26,9 @@ use Rattle.meaning.specs.Values.{
   sameV,
   sameVs,
 }
+use Rattle.store.specs.Tree.{sameTree}
+use Rattle.values.specs.Encoding.{indexOf, Known, bits64, treeV, treeVs, Fine, Fines}
+use Rattle.meaning.proofs.Splits.{T-of, no-clash, same-is, same-refl}
 
 -- both or neither
 both : (a b : Bool) → (a ≡ true → b ≡ true) → (b ≡ true → a ≡ true) → a ≡ b

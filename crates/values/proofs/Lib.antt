@@ -4,3 +4,4 @@ pub mod Counting
 pub mod Walking
 pub mod Outputs
 pub mod Decimals
+pub mod Printing

@@ -22,17 +22,6 @@ use Rattle.store.specs.declared.slot.Slot.{Slot}
 use Rattle.values.specs.Encoding.{treeV, treeVs, Fine, Holds, Known, indexOf}
 use Rattle.values.specs.Names.{nameAt}
 use Rattle.values.specs.Shape.{IsPair, IsTuple, IsAtom}
-use Rattle.values.specs.Walk.{inside, Pushed, Opened}
-use Rattle.values.specs.declared.piece.Piece.{Piece}
-use Rattle.values.specs.declared.piece.Piece.the-variants.{Sign, Signs, Closing, Atom}
-use Rattle.values.specs.declared.value.Atom.{Atom as AtomNumber}
-use Rattle.values.specs.declared.walk.Cursor.{Cursor}
-use Rattle.values.specs.declared.walk.Step.{Step}
-use Rattle.values.specs.declared.walk.Step.the-variants.{More}
-use Rattle.values.specs.declared.walk.Unprinted.{Unprinted}
-use Rattle.meaning.proofs.Splits.{T-of, same-is, no-clash}
-use Rattle.store.proofs.Laws.{node-left, node-right}
-use Rattle.values.proofs.Shapes.{kind-is}
 use Rattle.values.specs.Text.{
   closed,
   pieceText,
@@ -53,6 +42,17 @@ use Rattle.values.specs.Text.{
   Moves,
   rank,
 }
+use Rattle.values.specs.Walk.{inside, Pushed, Opened}
+use Rattle.values.specs.declared.piece.Piece.{Piece}
+use Rattle.values.specs.declared.piece.Piece.the-variants.{Sign, Signs, Closing, Atom}
+use Rattle.values.specs.declared.value.Atom.{Atom as AtomNumber}
+use Rattle.values.specs.declared.walk.Cursor.{Cursor}
+use Rattle.values.specs.declared.walk.Step.{Step}
+use Rattle.values.specs.declared.walk.Step.the-variants.{More}
+use Rattle.values.specs.declared.walk.Unprinted.{Unprinted}
+use Rattle.meaning.proofs.Splits.{T-of, same-is, no-clash}
+use Rattle.store.proofs.Laws.{node-left, node-right}
+use Rattle.values.proofs.Shapes.{kind-is}
 
 -- opening a node of nestings x and y at depth d
 need-opened : (lim d x y z : ℕ) → max lim (max (d + max (1 + x) y) z) ≡ max lim (max (suc d + x) (max (d + y) z))

@@ -7,4 +7,5 @@ pub mod Names
 pub mod Text
 pub mod Walk
 pub mod Output
+pub mod Print
 pub mod Space

@@ -9,7 +9,6 @@ use Rattle.values.specs.Encoding.{treeV}
 use Rattle.values.specs.Text.{nesting}
 use Rattle.values.specs.declared.piece.Piece.the-variants.{Signs, Number, Worker}
 use Rattle.values.proofs.Walking.{
-use Rattle.values.proofs.walk.begin.Needs as need
   begun,
   piece-goes,
   piece-moves,
@@ -19,6 +18,7 @@ use Rattle.values.proofs.walk.begin.Needs as need
   tuple-after,
   opened-moves,
 }
+use Rattle.values.proofs.walk.begin.Needs as need
 
 pub returns-in-Number : need.returns-in-Number
 returns-in-Number c =

@@ -3,7 +3,6 @@ use Prim.Native.Nat.{ℕ}
 use native.Mathlib.Omega.{arith}
 use lib.ListN.{length-replicate}
 use Rattle.values.proofs.Walking.{
-use Rattle.values.proofs.walk.resume.Needs as need
   resumed,
   resumed-end,
   closing-goes,
@@ -13,6 +12,7 @@ use Rattle.values.proofs.walk.resume.Needs as need
   comma-after,
   opened-moves,
 }
+use Rattle.values.proofs.walk.resume.Needs as need
 
 pub returns-then-closing-gt0 : need.returns-then-closing-gt0
 returns-then-closing-gt0 c =
