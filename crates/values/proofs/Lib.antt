@@ -1,3 +1,4 @@
+pub mod Laws
 pub mod Shapes
 pub mod Comparing
 pub mod Counting

@@ -12,14 +12,14 @@ use mir.Syntax.{w64}
 use Rattle.std.proofs.shelf.Signed.{toZ-ofZ}
 use Rattle.meaning.specs.Basics.{Name}
 use Rattle.meaning.specs.Values.{Value as Val, v-int, v-atom, v-tuple, v-nil, v-cons, v-pid, no-v, and-v, fits}
-use Rattle.store.specs.Heap.{Kept, Store, Den}
+use Rattle.store.specs.Heap.{Store, Den}
 use Rattle.store.specs.Slots.{placeOf}
 use Rattle.store.specs.declared.slot.Slot.{Slot}
 use Rattle.values.specs.Encoding.{Holds, bits64, number}
 use Rattle.values.specs.Shape.{Shape}
 use Rattle.values.specs.declared.value.Value.{Value}
 use Rattle.values.specs.declared.value.Value.the-variants.{Number, Atom, Worker, Nil, EmptyTuple, Tuple, Pair}
-use Rattle.store.proofs.Laws.{leaf-is, node-is, node-left, node-right, keeps}
+use Rattle.store.proofs.Laws.{leaf-is, node-is, node-left, node-right}
 
 -- the kind of the slot that holds a value
 abbrev pub kindOf : Val → ℕ
@@ -39,10 +39,6 @@ kind-is (v-tuple (and-v a vs)) h = node-is (h .stands)
 kind-is v-nil h = ap (λ (q : Slot). q .kind) (leaf-is (h .stands))
 kind-is (v-cons a b) h = node-is (h .stands)
 kind-is (v-pid n) h = ap (λ (q : Slot). q .kind) (leaf-is (h .stands))
-
--- what was held is held
-pub holds-kept : {ns : List Name} {m m′ : Store} {s : Slot} {v : Val} → Kept m m′ → Holds ns m s v → Holds ns m′ s v
-holds-kept g h = record { fine = h .fine; stands = keeps g (h .stands) }
 
 -- the outermost part that a slot of kind k shows
 abbrev pub partBy : ℕ → Slot → Value

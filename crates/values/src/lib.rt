@@ -11,7 +11,6 @@ mod walk;
 
 pub use equality::same_value;
 pub use names::Names;
-pub use printer::measure;
 pub use printer::print;
 pub use space::bindings_cells;
 pub use space::chain_cells;
