@@ -42,7 +42,8 @@ pub fn piece_length<N: Names>(piece: Piece, names: &N) -> usize
 /// Writes a piece's text, where there is room for it.
 pub fn write_piece<N: Names>(piece: Piece, names: &N, out: &mut [u8], at: usize)
     requires { ⌜ at + length (pieceText (N·Names .table (now names)) piece) ≤ length (now out) ⌝ }
-    ensures { λ _. ⌜ now (out .exit) ≡ written (now (out .entry)) at (pieceText (N·Names .table (now (names .entry))) piece) ⌝ }
+    ensures { λ _. ⌜ now (out .exit) ≡
+        written (now (out .entry)) at (pieceText (N·Names .table (now (names .entry))) piece) ⌝ }
 {
     match piece {
         Piece::Sign(a) => out[at] = a,

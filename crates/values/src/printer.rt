@@ -25,10 +25,13 @@ pub fn print<N: Names>(
     at: usize,
 ) -> Result<usize, Unprinted>
     ensures cases { λ r. ⌜ Cases r
-        (λ end. Printed (N·Names .table (now (names .entry))) (now (words .entry)) slot (now (out .entry)) (now (out .exit)) at end)
-        (λ why. Unprinted-value (N·Names .table (now (names .entry))) (now (words .entry)) slot at (length (now (out .entry))) (now (scratch .entry)) why) ⌝ }
+        (λ end. Printed (N·Names .table (now (names .entry))) (now (words .entry)) slot
+            (now (out .entry)) (now (out .exit)) at end)
+        (λ why. Unprinted-value (N·Names .table (now (names .entry))) (now (words .entry)) slot
+            at (length (now (out .entry))) (now (scratch .entry)) why) ⌝ }
     ensures alone { λ r. ⌜ Cases r (λ _. Unit {0})
-        (λ _. Left-alone (N·Names .table (now (names .entry))) (now (words .entry)) slot (now (out .entry)) (now (out .exit))) ⌝ }
+        (λ _. Left-alone (N·Names .table (now (names .entry))) (now (words .entry)) slot
+            (now (out .entry)) (now (out .exit))) ⌝ }
 {
     match measure(words, slot, names, scratch, at, out.len()) {
         Ok(_) => {}
@@ -50,8 +53,10 @@ pub fn measure<N: Names>(
     limit: usize,
 ) -> Result<usize, Unprinted>
     ensures { λ r. ⌜ Cases r
-        (λ end. Measured (N·Names .table (now (names .entry))) (now (words .entry)) slot at limit (now (scratch .entry)) end)
-        (λ why. Unprinted-value (N·Names .table (now (names .entry))) (now (words .entry)) slot at limit (now (scratch .entry)) why) ⌝ }
+        (λ end. Measured (N·Names .table (now (names .entry))) (now (words .entry)) slot
+            at limit (now (scratch .entry)) end)
+        (λ why. Unprinted-value (N·Names .table (now (names .entry))) (now (words .entry)) slot
+            at limit (now (scratch .entry)) why) ⌝ }
 {
     if at > limit {
         return Err(Unprinted::TooLong);
@@ -91,8 +96,10 @@ fn write_text<N: Names>(
     at: usize,
 ) -> Result<usize, Unprinted>
     ensures { λ r. ⌜ Cases r
-        (λ end. Printed (N·Names .table (now (names .entry))) (now (words .entry)) slot (now (out .entry)) (now (out .exit)) at end)
-        (λ why. Unprinted-value (N·Names .table (now (names .entry))) (now (words .entry)) slot at (length (now (out .entry))) (now (scratch .entry)) why) ⌝ }
+        (λ end. Printed (N·Names .table (now (names .entry))) (now (words .entry)) slot
+            (now (out .entry)) (now (out .exit)) at end)
+        (λ why. Unprinted-value (N·Names .table (now (names .entry))) (now (words .entry)) slot
+            at (length (now (out .entry))) (now (scratch .entry)) why) ⌝ }
 {
     if at > out.len() {
         return Err(Unprinted::TooLong);

@@ -7,19 +7,25 @@ use store::Slot;
 use store::SlotDebug;
 use store::SlotPartialEq;
 
-/// The kinds of slots that hold values: leaves below 16, nodes from there on.
+/// The kind of a number's slot, a leaf with its 64 bits.
 pub const NUMBER: u32 = 0;
 
+/// The kind of an atom's slot, a leaf with its number in the table of names.
 pub const ATOM: u32 = 1;
 
+/// The kind of the empty list's slot, a leaf.
 pub const NIL: u32 = 2;
 
+/// The kind of a worker's slot, a leaf with the 64 bits of its number.
 pub const WORKER: u32 = 3;
 
+/// The kind of the empty tuple's slot, a leaf.
 pub const EMPTY_TUPLE: u32 = 4;
 
+/// The kind of a pair's slot, a node of the head and the tail.
 pub const PAIR: u32 = 16;
 
+/// The kind of the slot of a tuple that has elements, a node of the first and the tuple of the others.
 pub const TUPLE: u32 = 17;
 
 /// An atom: the number of its name in a table of names.

@@ -1,7 +1,7 @@
 //! The walk through a value's tree that gives its text piece by piece, with a stack in lent words.
 
 ghost use mathlib.Core.Path.{_≡_};
-ghost use Prim.Native.Nat.{_+_, _*_, _≤_, _<_};
+ghost use Prim.Native.Nat.{_<_};
 ghost use lib.ListN.{length};
 ghost use Rattle.std.specs.declared.option.Option.the-variants.{Some, None};
 ghost use Rattle.std.specs.Results.{Cases};
@@ -56,14 +56,12 @@ pub fn advance(words: &[u32], scratch: &mut [u32], cursor: Cursor) -> Result<Ste
 
 /// The first piece of the value that is next.
 fn begin(words: &[u32], scratch: &mut [u32], cursor: Cursor, slot: Slot) -> Result<Step, Unprinted>
-    ensures steps { λ r. ⌜ (cursor .next ≡ Some slot → Steps (now (words .entry)) (now (scratch .entry)) (now (scratch .exit)) cursor r) ⌝ }
+    ensures steps { λ r. ⌜ (cursor .next ≡ Some slot
+        → Steps (now (words .entry)) (now (scratch .entry)) (now (scratch .exit)) cursor r) ⌝ }
     ensures moves { λ r. ⌜ (cursor .next ≡ Some slot → Moves cursor r) ⌝ }
 {
-    let Cursor {
-        next: _,
-        closing,
-        depth,
-    } = cursor;
+    let closing = cursor.closing;
+    let depth = cursor.depth;
     let done = Cursor {
         next: None,
         closing,
@@ -79,24 +77,12 @@ fn begin(words: &[u32], scratch: &mut [u32], cursor: Cursor, slot: Slot) -> Resu
             if closing == usize::MAX {
                 return Err(Unprinted::TooLong);
             }
-            open(
-                words,
-                scratch,
-                node,
-                number(PAIR, (closing + 1) as u64),
-                depth,
-                b'[',
-            )
+            let mark = number(PAIR, (closing + 1) as u64);
+            open(words, scratch, node, mark, depth, b'[')
         }
         Value::Tuple(node) => {
-            open(
-                words,
-                scratch,
-                node,
-                number(TUPLE, closing as u64),
-                depth,
-                b'{',
-            )
+            let mark = number(TUPLE, closing as u64);
+            open(words, scratch, node, mark, depth, b'{')
         }
         Value::Unknown(_) => Err(Unprinted::TooDeep),
     }
@@ -104,49 +90,50 @@ fn begin(words: &[u32], scratch: &mut [u32], cursor: Cursor, slot: Slot) -> Resu
 
 /// The next piece after a value: the brackets that close, or what waits.
 fn resume(words: &[u32], scratch: &mut [u32], cursor: Cursor) -> Result<Step, Unprinted>
-    ensures steps { λ r. ⌜ (cursor .next ≡ None → Steps (now (words .entry)) (now (scratch .entry)) (now (scratch .exit)) cursor r) ⌝ }
+    ensures steps { λ r. ⌜ (cursor .next ≡ None
+        → Steps (now (words .entry)) (now (scratch .entry)) (now (scratch .exit)) cursor r) ⌝ }
     ensures moves { λ r. ⌜ (cursor .next ≡ None → Moves cursor r) ⌝ }
 {
-    let Cursor {
-        next: _,
-        closing,
-        depth,
-    } = cursor;
+    let closing = cursor.closing;
     if closing > 0 {
-        return Ok(Step::More(
-            Piece::Closing(closing),
-            Cursor {
-                next: None,
-                closing: 0,
-                depth,
-            },
-        ));
+        let next = Cursor {
+            next: None,
+            closing: 0,
+            depth: cursor.depth,
+        };
+        return Ok(Step::More(Piece::Closing(closing), next));
     }
-    if depth == 0 {
+    if cursor.depth == 0 {
         return Ok(Step::End);
     }
-    let depth = depth - 1;
+    pop(words, scratch, cursor)
+}
+
+/// The next piece after the left part of a node: its mark says whether a tail or more elements wait.
+fn pop(words: &[u32], scratch: &mut [u32], cursor: Cursor) -> Result<Step, Unprinted>
+    requires { ⌜ 0 < cursor .depth ⌝ }
+    ensures steps { λ r. ⌜ (cursor .next ≡ None → cursor .closing ≡ 0
+        → Steps (now (words .entry)) (now (scratch .entry)) (now (scratch .exit)) cursor r) ⌝ }
+    ensures moves { λ r. ⌜ Moves cursor r ⌝ }
+{
+    let depth = cursor.depth - 1;
     let Cell { left, right } = read_cell(scratch, Place(depth));
     let closing = joined(right.low, right.high) as usize;
     if right.kind == PAIR {
-        return Ok(Step::More(
-            Piece::Sign(b'|'),
-            Cursor {
-                next: Some(left),
-                closing,
-                depth,
-            },
-        ));
+        let next = Cursor {
+            next: Some(left),
+            closing,
+            depth,
+        };
+        return Ok(Step::More(Piece::Sign(b'|'), next));
     }
     if left.kind == EMPTY_TUPLE {
-        return Ok(Step::More(
-            Piece::Signs(b',', b'}'),
-            Cursor {
-                next: None,
-                closing,
-                depth,
-            },
-        ));
+        let next = Cursor {
+            next: None,
+            closing,
+            depth,
+        };
+        return Ok(Step::More(Piece::Signs(b',', b'}'), next));
     }
     open(words, scratch, left, right, depth, b',')
 }
@@ -160,25 +147,23 @@ fn open(
     depth: usize,
     sign: u8,
 ) -> Result<Step, Unprinted>
-    ensures { λ r. ⌜ Opened (now (words .entry)) (now (scratch .entry)) (now (scratch .exit)) node mark depth sign r ⌝ }
+    ensures { λ r. ⌜ Opened (now (words .entry)) (now (scratch .entry)) (now (scratch .exit))
+        node mark depth sign r ⌝ }
 {
     let parts = both(words, node);
-    match write_cell(
-        scratch,
-        Place(depth),
-        Cell {
-            left: parts.right,
-            right: mark,
-        },
-    ) {
-        Ok(()) => Ok(Step::More(
-            Piece::Sign(sign),
-            Cursor {
+    let waiting = Cell {
+        left: parts.right,
+        right: mark,
+    };
+    match write_cell(scratch, Place(depth), waiting) {
+        Ok(()) => {
+            let next = Cursor {
                 next: Some(parts.left),
                 closing: 0,
                 depth: depth + 1,
-            },
-        )),
+            };
+            Ok(Step::More(Piece::Sign(sign), next))
+        }
         Err(_) => Err(Unprinted::TooDeep),
     }
 }

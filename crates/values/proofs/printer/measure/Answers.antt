@@ -23,14 +23,14 @@ returns-in-End g c =
     record {
       fits = c .pieces .inv .0;
       end-is = λ {used} {v} h.
-          counting-end s (c .pieces .inv .1 used (textV v)
+          counting-end {scratch′ = c .advance .last .scratch} s (c .pieces .inv .1 used (textV v)
           (nesting (treeV (g .N·Names .table (c .args .names .now)) v))
           (remains-start (c .args .scratch .now) h)) .0;
       deep = λ {used} {v} h.
           omega (
             arith,
             c .pieces .kept .scratch,
-            counting-end s (c .pieces .inv .1 used (textV v)
+            counting-end {scratch′ = c .advance .last .scratch} s (c .pieces .inv .1 used (textV v)
                 (nesting (treeV (g .N·Names .table (c .args .names .now)) v))
                 (remains-start (c .args .scratch .now) h)) .1,
           );

@@ -25,7 +25,8 @@ returns-in-Err g c =
     let small : length (c .args .out .now) < 2 ^ 64 = search needs in
     record {
       unfit = λ {used} {v} h.
-          counting-refused (c .in-Err .why) (length (c .args .out .now)) (c .args .scratch .now)
+          counting-refused {scratch′ = c .advance .last .scratch} (c .in-Err .why) (length (c .args .out .now))
+          (c .args .scratch .now)
           (omega (arith, c .pieces .kept .scratch)) (c .in-Err .ensures tt .steps)
           (c .advance .kept .scratch) small
           (counted (c .args .out .now) (c .pieces .out)

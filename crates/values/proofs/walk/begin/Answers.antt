@@ -96,8 +96,10 @@ returns-else-closing c =
       steps = λ e. record {
         so = λ r.
             let b = begun e r in
-            pair-after b (c .in-Pair .ensures tt .value (b .holds)) (c .open .kept .scratch) (c .number .ensures .0)
-            (omega (arith, c .number .ensures .1, c .number .ensures .2)) (c .open .result) (c .open .ensures);
+            pair-after b (c .in-Pair .ensures tt .value (b .holds)) (c .open .kept .scratch)
+            (c .number-mark .ensures .0)
+            (omega (arith, c .number-mark .ensures .1, c .number-mark .ensures .2)) (c .open .result)
+            (c .open .ensures);
       };
       moves = λ e. opened-moves _ _ _ _ _ _ _ (c .args .cursor) (c .open .result) (c .open .ensures);
     }
@@ -109,8 +111,9 @@ returns-in-Tuple c =
         so = λ r.
             let b = begun e r in
             tuple-after b (c .in-Tuple .ensures tt .value (b .holds)) (c .open-in-Tuple .kept .scratch)
-            (c .number-in-Tuple .ensures .0)
-            (omega (arith, c .number-in-Tuple .ensures .1, c .number-in-Tuple .ensures .2)) (c .open-in-Tuple .result)
+            (c .number-mark-in-Tuple .ensures .0)
+            (omega (arith, c .number-mark-in-Tuple .ensures .1, c .number-mark-in-Tuple .ensures .2))
+            (c .open-in-Tuple .result)
             (c .open-in-Tuple .ensures);
       };
       moves = λ e. opened-moves _ _ _ _ _ _ _ (c .args .cursor) (c .open-in-Tuple .result)
