@@ -25,8 +25,6 @@ pub use value::NUMBER;
 pub use value::PAIR;
 pub use value::TUPLE;
 pub use value::Value;
-pub use value::ValueDebug;
-pub use value::ValuePartialEq;
 pub use value::WORKER;
 pub use value::WorkerId;
 pub use value::WorkerIdDebug;

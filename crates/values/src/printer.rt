@@ -26,12 +26,12 @@ pub fn print<N: Names>(
 ) -> Result<usize, Unprinted>
     ensures cases { λ r. ⌜ Cases r
         (λ end. Printed (N·Names .table (now (names .entry))) (now (words .entry)) slot
-            (now (out .entry)) (now (out .exit)) at end)
+        (now (out .entry)) (now (out .exit)) at end)
         (λ why. Unprinted-value (N·Names .table (now (names .entry))) (now (words .entry)) slot
-            at (length (now (out .entry))) (now (scratch .entry)) why) ⌝ }
+        at (length (now (out .entry))) (now (scratch .entry)) why) ⌝ }
     ensures alone { λ r. ⌜ Cases r (λ _. Unit {0})
         (λ _. Left-alone (N·Names .table (now (names .entry))) (now (words .entry)) slot
-            (now (out .entry)) (now (out .exit))) ⌝ }
+        (now (out .entry)) (now (out .exit))) ⌝ }
 {
     match measure(words, slot, names, scratch, at, out.len()) {
         Ok(_) => {}
@@ -54,9 +54,9 @@ pub fn measure<N: Names>(
 ) -> Result<usize, Unprinted>
     ensures { λ r. ⌜ Cases r
         (λ end. Measured (N·Names .table (now (names .entry))) (now (words .entry)) slot
-            at limit (now (scratch .entry)) end)
+        at limit (now (scratch .entry)) end)
         (λ why. Unprinted-value (N·Names .table (now (names .entry))) (now (words .entry)) slot
-            at limit (now (scratch .entry)) why) ⌝ }
+        at limit (now (scratch .entry)) why) ⌝ }
 {
     if at > limit {
         return Err(Unprinted::TooLong);
@@ -97,9 +97,9 @@ fn write_text<N: Names>(
 ) -> Result<usize, Unprinted>
     ensures { λ r. ⌜ Cases r
         (λ end. Printed (N·Names .table (now (names .entry))) (now (words .entry)) slot
-            (now (out .entry)) (now (out .exit)) at end)
+        (now (out .entry)) (now (out .exit)) at end)
         (λ why. Unprinted-value (N·Names .table (now (names .entry))) (now (words .entry)) slot
-            at (length (now (out .entry))) (now (scratch .entry)) why) ⌝ }
+        at (length (now (out .entry))) (now (scratch .entry)) why) ⌝ }
 {
     if at > out.len() {
         return Err(Unprinted::TooLong);

@@ -4,8 +4,6 @@ ghost use mathlib.Core.Path.{_≡_};
 ghost use Prim.Native.Nat.{_+_, _*_, _/_, _%_, _^_};
 ghost use Rattle.values.specs.Shape.{Stands, Views};
 use store::Slot;
-use store::SlotDebug;
-use store::SlotPartialEq;
 
 /// The kind of a number's slot, a leaf with its 64 bits.
 pub const NUMBER: u32 = 0;
@@ -37,7 +35,7 @@ pub struct Atom(pub u32);
 pub struct WorkerId(pub u64);
 
 /// A value's outermost part; that of a tuple with elements and of a pair is a node, whose cell has the parts.
-#[derive(Clone, Copy, Debug, PartialEq)]
+#[derive(Clone, Copy)]
 pub enum Value {
     Number(i64),
     Atom(Atom),
