@@ -19,7 +19,7 @@ use Rattle.std.proofs.shelf.Decimals.{
 }
 use Rattle.meaning.specs.Values.{decimal, digits}
 use Rattle.values.specs.Output.{written}
-use Rattle.values.specs.Text.{workerText}
+use Rattle.values.specs.Pieces.{workerText}
 use Rattle.values.proofs.Outputs.{written-byte, written-before, written-after, length-written}
 
 digits-spell : SpellsOnto digits

@@ -12,7 +12,7 @@ use Rattle.store.specs.Heap.{Store, Kept, Put}
 use Rattle.store.specs.Tree.{Tree, leaf, node, cells}
 use Rattle.store.specs.declared.slot.Slot.{Slot}
 use Rattle.values.specs.Encoding.{Fine, treeV, Holds}
-use Rattle.values.specs.Text.{nesting}
+use Rattle.values.specs.Walk.{nesting}
 use Rattle.store.proofs.Laws.{keeps, node-left, node-right}
 use Rattle.values.proofs.Comparing.{index-one}
 use Rattle.values.proofs.Shapes.{kind-is, part-seen, seen-by}

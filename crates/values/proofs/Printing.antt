@@ -9,8 +9,9 @@ use Rattle.std.specs.declared.result.Result.the-variants.{Ok, Err}
 use Rattle.meaning.specs.Basics.{Name}
 use Rattle.store.specs.Heap.{storeOf}
 use Rattle.values.specs.Output.{written}
+use Rattle.values.specs.Pieces.{pieceText}
 use Rattle.values.specs.Print.{Stands-at, Unfit, Counting, Writing}
-use Rattle.values.specs.Text.{Remains, Steps, Moves, rank, pieceText}
+use Rattle.values.specs.Walk.{Remains, Steps, Moves, rank}
 use Rattle.values.specs.declared.piece.Piece.{Piece}
 use Rattle.values.specs.declared.walk.Cursor.{Cursor}
 use Rattle.values.specs.declared.walk.Step.{Step}

@@ -21,10 +21,9 @@ use Rattle.store.specs.declared.slot.Cell.{Cell}
 use Rattle.store.specs.declared.slot.Slot.{Slot}
 use Rattle.values.specs.Encoding.{treeV, treeVs, Fine, Holds, Known, indexOf}
 use Rattle.values.specs.Names.{nameAt}
+use Rattle.values.specs.Pieces.{closed, pieceText}
 use Rattle.values.specs.Shape.{IsPair, IsTuple, IsAtom}
-use Rattle.values.specs.Text.{
-  closed,
-  pieceText,
+use Rattle.values.specs.Walk.{
   nesting,
   Waiting,
   tail,
@@ -41,8 +40,10 @@ use Rattle.values.specs.Text.{
   After,
   Moves,
   rank,
+  inside,
+  Pushed,
+  Opened,
 }
-use Rattle.values.specs.Walk.{inside, Pushed, Opened}
 use Rattle.values.specs.declared.piece.Piece.{Piece}
 use Rattle.values.specs.declared.piece.Piece.the-variants.{Sign, Signs, Closing, Atom}
 use Rattle.values.specs.declared.value.Atom.{Atom as AtomNumber}

@@ -9,7 +9,7 @@ use Rattle.store.specs.Heap.{Store, storeOf}
 use Rattle.store.specs.declared.slot.Slot.{Slot}
 use Rattle.values.specs.Encoding.{Holds, treeV}
 use Rattle.values.specs.Output.{written}
-use Rattle.values.specs.Text.{Remains, nesting}
+use Rattle.values.specs.Walk.{Remains, nesting}
 use Rattle.values.specs.declared.walk.Cursor.{Cursor}
 use Rattle.values.specs.declared.walk.Unprinted.{Unprinted}
 use Rattle.values.specs.declared.walk.Unprinted.the-variants.{TooLong, TooDeep}

@@ -6,7 +6,7 @@ ghost use lib.IntN.{pos};
 ghost use lib.ListN.{length};
 ghost use Rattle.meaning.specs.Values.{decimal};
 ghost use Rattle.values.specs.Output.{written};
-ghost use Rattle.values.specs.Text.{workerText};
+ghost use Rattle.values.specs.Pieces.{workerText};
 
 /// The length of a number's text, with its sign.
 pub fn number_length(n: i64) -> usize

@@ -1,7 +1,7 @@
 //! Values of the language as trees of the store: their outermost parts, whether two are the same, and their text.
 
+mod comparer;
 mod digits;
-mod equality;
 mod names;
 mod piece;
 mod printer;
@@ -9,7 +9,7 @@ mod space;
 mod value;
 mod walk;
 
-pub use equality::same_value;
+pub use comparer::same_value;
 pub use names::Names;
 pub use printer::print;
 pub use space::bindings_cells;

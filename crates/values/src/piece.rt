@@ -5,7 +5,7 @@ ghost use Prim.Native.Nat.{_+_, _≤_};
 ghost use lib.IntN.{pos};
 ghost use lib.ListN.{length, replicate};
 ghost use Rattle.values.specs.Output.{written};
-ghost use Rattle.values.specs.Text.{pieceText};
+ghost use Rattle.values.specs.Pieces.{pieceText};
 use crate::digits::number_length;
 use crate::digits::worker_length;
 use crate::digits::write_number;

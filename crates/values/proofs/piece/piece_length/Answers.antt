@@ -1,7 +1,7 @@
 use mathlib.Core.Path.{sym, ap, _∙_}
 use Prim.Native.Nat.{ℕ}
 use lib.ListN.{length, length-replicate}
-use Rattle.values.specs.Text.{pieceText}
+use Rattle.values.specs.Pieces.{pieceText}
 use Rattle.values.proofs.piece.piece_length.Needs as need
 
 pub returns-in-Closing : need.returns-in-Closing

@@ -3,7 +3,7 @@ use Prim.Native.Nat.{ℕ}
 use native.Mathlib.Omega.{arith}
 use lib.ListN.{length, length-replicate}
 use Rattle.values.specs.Output.{written}
-use Rattle.values.specs.Text.{pieceText}
+use Rattle.values.specs.Pieces.{pieceText}
 use Rattle.values.proofs.Outputs.{written-byte, signs-written}
 use Rattle.values.proofs.piece.write_piece.Needs as need
 

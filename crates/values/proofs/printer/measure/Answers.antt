@@ -1,7 +1,7 @@
 use native.Mathlib.Omega.{arith}
 use Rattle.meaning.specs.Values.{textV}
 use Rattle.values.specs.Encoding.{treeV}
-use Rattle.values.specs.Text.{nesting}
+use Rattle.values.specs.Walk.{nesting}
 use Rattle.values.proofs.Printing.{steps-is, counting-end, counting-long, counting-more, counting-refused}
 use Rattle.values.proofs.Walking.{remains-start}
 use Rattle.values.proofs.printer.measure.Needs as need

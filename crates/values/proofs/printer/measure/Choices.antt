@@ -2,7 +2,7 @@ use mathlib.Core.List.{List}
 use Prim.Native.Nat.{ℕ, _+_, _-_, _*_, _≤_}
 use Rattle.store.specs.Heap.{storeOf}
 use Rattle.values.specs.Print.{Counting}
-use Rattle.values.specs.Text.{Remains, rank}
+use Rattle.values.specs.Walk.{Remains, rank}
 use Rattle.values.proofs.printer.measure.Given as given
 
 abbrev pub Inv-pieces : given.InvT-pieces

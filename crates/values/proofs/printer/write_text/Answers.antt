@@ -4,7 +4,7 @@ use lib.ListN.{length}
 use borrow.Author.Needs.{needs}
 use Rattle.meaning.specs.Values.{textV}
 use Rattle.values.specs.Encoding.{treeV}
-use Rattle.values.specs.Text.{nesting}
+use Rattle.values.specs.Walk.{nesting}
 use Rattle.values.proofs.Printing.{
   steps-is,
   counted,

@@ -3,7 +3,7 @@ use Prim.Native.Nat.{ℕ, _+_, _-_, _*_, _≤_}
 use lib.ListN.{length}
 use Rattle.store.specs.Heap.{storeOf}
 use Rattle.values.specs.Print.{Writing}
-use Rattle.values.specs.Text.{Remains, rank}
+use Rattle.values.specs.Walk.{Remains, rank}
 use Rattle.values.proofs.printer.write_text.Given as given
 
 abbrev pub Inv-pieces : given.InvT-pieces

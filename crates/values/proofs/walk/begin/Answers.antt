@@ -6,7 +6,7 @@ use mir.Val.{toZ, ofZ}
 use Rattle.std.proofs.shelf.Signed.{toZ-ofZ}
 use Rattle.meaning.specs.Values.{v-int, textV}
 use Rattle.values.specs.Encoding.{treeV}
-use Rattle.values.specs.Text.{nesting}
+use Rattle.values.specs.Walk.{nesting}
 use Rattle.values.specs.declared.piece.Piece.the-variants.{Signs, Number, Worker}
 use Rattle.values.proofs.Walking.{
   begun,
