@@ -8,7 +8,7 @@ use Rattle.meaning.specs.Basics.{Name}
 use Rattle.meaning.specs.Atoms.{a-gone, a-old}
 use Rattle.meaning.specs.Syntax.{Program}
 use Rattle.meaning.specs.Values.{Value, v-atom}
-use Rattle.meaning.specs.System.{Scope, Control, Frame, Worker, System, with-signals, with-line, with-name, with-new, find, on-worker, set-mail, add-mail, set-traps, add-link, ended, current, swapped}
+use Rattle.meaning.specs.System.{Scope, Control, Frame, Worker, System, with-line, with-name, with-new, find, on-worker, set-mail, set-traps, send-mail, link-both, send-signal, ended, current, swapped}
 use Rattle.meaning.specs.Turns.{Outcome, goes-on, leaves, stuck, enter-function}
 use Rattle.meaning.specs.Promise.{end-reason}
 
@@ -23,10 +23,10 @@ pub data Effect (g : Program) (s : System) (w : Scope) (me : ℕ) : System → T
   took : (ms : List Value) → Effect g s w me (on-worker s me (set-mail ms))
   spawned : (c : Control) → From g s w c → Effect g s w me (with-new s c)
   showed : (l : List ℕ) → Effect g s w me (with-line s l)
-  sent : (q : ℕ) (v : Value) → Effect g s w me (on-worker s q (add-mail v))
-  linked : (q : ℕ) (x : Worker) → (q ≡ me → ⊥) → find (s .workers) q ≡ some x → Effect g s w me (on-worker (on-worker s me (add-link q)) q (add-link me))
-  linked-gone : (q : ℕ) → (q ≡ me → ⊥) → find (s .workers) q ≡ none → Effect g s w me (with-signals s (s .signals ++ (record { to = me; from = q; reason = v-atom a-gone } ∷ [])))
-  exited : (q : ℕ) (r : Value) → Effect g s w me (with-signals s (s .signals ++ (record { to = q; from = me; reason = r } ∷ [])))
+  sent : (q : ℕ) (v : Value) → Effect g s w me (send-mail s q v)
+  linked : (q : ℕ) (x : Worker) → (q ≡ me → ⊥) → find (s .workers) q ≡ some x → Effect g s w me (link-both s me q)
+  linked-gone : (q : ℕ) → (q ≡ me → ⊥) → find (s .workers) q ≡ none → Effect g s w me (send-signal s me q (v-atom a-gone))
+  exited : (q : ℕ) (r : Value) → Effect g s w me (send-signal s q me r)
   trapped : (b : Bool) → Effect g s w me (on-worker s me (set-traps b))
   named : (x : Name) → Effect g s w me (with-name s x me)
 

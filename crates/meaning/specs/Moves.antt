@@ -8,7 +8,7 @@ use Rattle.meaning.specs.Basics.{opt, on-some, Name}
 use Rattle.meaning.specs.Atoms.{a-normal, a-exit, a-main}
 use Rattle.meaning.specs.Syntax.{Module, Program}
 use Rattle.meaning.specs.Values.{Value, v-atom, v-tuple, v-pid, no-v, and-v, sameV}
-use Rattle.meaning.specs.System.{until, for-ever, Control, eval, give, enter, fail, wait, Worker, Signal, Loaded, System, with-signals, with-clock, find, on-worker, set-control, add-mail, cut-link, ended, current}
+use Rattle.meaning.specs.System.{until, for-ever, Control, eval, give, enter, fail, wait, Worker, Signal, Loaded, System, with-signals, with-clock, find, on-worker, set-control, send-mail, unlink-both, ended, current}
 use Rattle.meaning.specs.Turns.{Outcome, goes-on, leaves, stuck, enter-function, turn-of, can}
 
 pub data Move : Type 0 where
@@ -33,7 +33,7 @@ abbrev pub exit-message : Signal → Value
 exit-message g = v-tuple (and-v (v-atom a-exit) (and-v (v-pid (g .from)) (and-v (g .reason) no-v)))
 
 abbrev pub take-signal : System → Signal → Worker → System
-take-signal s g w = cond (w .traps) (on-worker s (w .pid) (add-mail (exit-message g))) (cond (sameV (g .reason) (v-atom a-normal)) (on-worker (on-worker s (w .pid) (cut-link (g .from))) (g .from) (cut-link (w .pid))) (ended s w (g .reason)))
+take-signal s g w = cond (w .traps) (send-mail s (w .pid) (exit-message g)) (cond (sameV (g .reason) (v-atom a-normal)) (unlink-both s (w .pid) (g .from)) (ended s w (g .reason)))
 
 -- the oldest signal; to nobody, if its worker is no more
 abbrev pub deliver : System → List Signal → Result

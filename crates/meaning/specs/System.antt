@@ -148,6 +148,21 @@ add-link n w = cond (among n (w .links)) w (set-links (w .links ++ (n ∷ [])) w
 abbrev pub cut-link : ℕ → Worker → Worker
 cut-link n w = set-links (without n (w .links)) w
 
+-- a message at the end of a worker's mailbox; those that are no more get nothing
+abbrev pub send-mail : System → ℕ → Value → System
+send-mail s q v = on-worker s q (add-mail v)
+
+-- two workers linked, both ways; and no longer
+abbrev pub link-both : System → ℕ → ℕ → System
+link-both s p q = on-worker (on-worker s p (add-link q)) q (add-link p)
+
+abbrev pub unlink-both : System → ℕ → ℕ → System
+unlink-both s p q = on-worker (on-worker s p (cut-link q)) q (cut-link p)
+
+-- a signal behind all others
+abbrev pub send-signal : System → ℕ → ℕ → Value → System
+send-signal s to from r = with-signals s (s .signals ++ (record { to = to; from = from; reason = r } ∷ []))
+
 -- the names that a worker had mean whom they meant before
 abbrev pub unnamed : List Registered → ℕ → List Registered
 unnamed [] n = []

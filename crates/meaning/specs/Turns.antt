@@ -10,7 +10,7 @@ use Rattle.meaning.specs.Basics.{opt, on-some, Name}
 use Rattle.meaning.specs.Atoms.{a-type, a-match, a-clause, a-zero, a-big, a-undef, a-normal, a-gone, a-ok, a-error, a-none, a-true, a-false}
 use Rattle.meaning.specs.Syntax.{Pattern, Operator, plus, minus, times, divide, modulo, equal, unequal, less, at-most, Builtin, send, self, link, exit, trap, show, register, whereis, swap, Operation, make-tuple, make-pair, call, far-call, spawn, far-spawn, operate, built-in, Expr, int, atom, var, nil, apply, case, receive, receive-until, catch, Exprs, no-e, and-e, Body, last, bind, Clauses, no-c, clause, Function, Program}
 use Rattle.meaning.specs.Values.{Value, v-int, v-atom, v-tuple, v-nil, v-cons, v-pid, no-v, and-v, as-int, as-atom, as-pid, sameV, less-int, tuple, Binding, look-up, match, textV, fits, quotient, remainder, is-zero}
-use Rattle.meaning.specs.System.{Scope, Until, for-ever, until, Control, eval, give, enter, fail, wait, Frame, operands-frame, bind-frame, case-frame, until-frame, catch-frame, Worker, System, with-signals, with-line, with-name, with-new, find, on-worker, set-mail, add-mail, set-traps, add-link, ended, functions-of, function-of, current, pid-of, swapped}
+use Rattle.meaning.specs.System.{Scope, Until, for-ever, until, Control, eval, give, enter, fail, wait, Frame, operands-frame, bind-frame, case-frame, until-frame, catch-frame, Worker, System, with-line, with-name, with-new, find, on-worker, set-mail, set-traps, send-mail, link-both, send-signal, ended, functions-of, function-of, current, pid-of, swapped}
 
 -- what a turn leads to: the worker goes on, with a control and frames; it is no more; or there is no meaning
 pub data Outcome : Type 0 where
@@ -105,19 +105,19 @@ abbrev pub target : System → Value → Option ℕ
 target s v = or-else (as-pid v) (on-some (as-atom v) (pid-of (s .names)))
 
 abbrev pub send-to : List Frame → System → Value → Value → Outcome
-send-to k s u v = opt (target s u) (error k s a-type) (λ q. gives k (on-worker s q (add-mail v)) v)
+send-to k s u v = opt (target s u) (error k s a-type) (λ q. gives k (send-mail s q v) v)
 
 -- link(w): both ways; if w is no more, a signal with 'gone is sent at once
 abbrev pub link-found : List Frame → System → ℕ → ℕ → Option Worker → Outcome
-link-found k s me q none = gives k (with-signals s (s .signals ++ (record { to = me; from = q; reason = v-atom a-gone } ∷ []))) (v-atom a-ok)
-link-found k s me q (some w) = gives k (on-worker (on-worker s me (add-link q)) q (add-link me)) (v-atom a-ok)
+link-found k s me q none = gives k (send-signal s me q (v-atom a-gone)) (v-atom a-ok)
+link-found k s me q (some w) = gives k (link-both s me q) (v-atom a-ok)
 
 abbrev pub link-to : List Frame → System → ℕ → Value → Outcome
 link-to k s me v = opt (as-pid v) (error k s a-type) (λ q. cond (eqb q me) (gives k s (v-atom a-ok)) (link-found k s me q (find (s .workers) q)))
 
 -- exit(w, r): a signal with r
 abbrev pub exit-to : List Frame → System → ℕ → Value → Value → Outcome
-exit-to k s me u v = opt (as-pid u) (error k s a-type) (λ q. gives k (with-signals s (s .signals ++ (record { to = q; from = me; reason = v } ∷ []))) (v-atom a-ok))
+exit-to k s me u v = opt (as-pid u) (error k s a-type) (λ q. gives k (send-signal s q me v) (v-atom a-ok))
 
 -- name(x) and where(x)
 abbrev pub register-as : List Frame → System → ℕ → Value → Outcome
