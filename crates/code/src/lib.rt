@@ -1,0 +1,1 @@
+//! How programs stand in cells: shared by the reader, which makes them, and the machine, which runs them.
