@@ -5,7 +5,57 @@ use mathlib.Core.Logic.{_⊎_}
 use mathlib.Core.List.{List, [], _∷_}
 use Prim.Native.Nat.{ℕ, suc, max, _<_, _≤_, _^_}
 use Rattle.meaning.specs.Basics.{Name}
-use Rattle.meaning.specs.Syntax.{Pattern, p-any, p-var, p-int, p-atom, p-tuple, p-nil, p-cons, Patterns, no-p, and-p, Builtin, send, self, link, exit, trap, show, register, whereis, swap, Operation, make-tuple, make-pair, call, far-call, spawn, far-spawn, operate, built-in, Expr, int, atom, var, nil, apply, case, receive, receive-until, catch, Exprs, no-e, and-e, Body, last, bind, Clauses, no-c, clause}
+use Rattle.meaning.specs.Syntax.{
+  Pattern,
+  p-any,
+  p-var,
+  p-int,
+  p-atom,
+  p-tuple,
+  p-nil,
+  p-cons,
+  Patterns,
+  no-p,
+  and-p,
+  Builtin,
+  send,
+  self,
+  link,
+  exit,
+  trap,
+  show,
+  register,
+  whereis,
+  swap,
+  Operation,
+  make-tuple,
+  make-pair,
+  call,
+  far-call,
+  spawn,
+  far-spawn,
+  operate,
+  built-in,
+  Expr,
+  int,
+  atom,
+  var,
+  nil,
+  apply,
+  case,
+  receive,
+  receive-until,
+  catch,
+  Exprs,
+  no-e,
+  and-e,
+  Body,
+  last,
+  bind,
+  Clauses,
+  no-c,
+  clause,
+}
 use Rattle.meaning.specs.Bound.{bound-by}
 use Rattle.meaning.specs.Grammar.{count}
 use Rattle.values.specs.Encoding.{Known}
@@ -20,6 +70,7 @@ abbrev mutual
   deepP (p-tuple ps) = deepPs ps
   deepP p-nil = 0
   deepP (p-cons a b) = max (suc (deepP a)) (deepP b)
+
   pub deepPs : Patterns → ℕ
   deepPs no-p = 0
   deepPs (and-p p ps) = max (suc (deepP p)) (deepPs ps)
@@ -33,6 +84,7 @@ abbrev mutual
   FineP ns (p-tuple ps) = FinePs ns ps
   FineP ns p-nil = Unit {0}
   FineP ns (p-cons a b) = FineP ns a × FineP ns b
+
   pub FinePs : List Name → Patterns → Type 0
   FinePs ns no-p = Unit {0}
   FinePs ns (and-p p ps) = FineP ns p × FinePs ns ps
@@ -40,7 +92,7 @@ abbrev mutual
 -- with the bound on its depth
 pub record Matchable (ns : List Name) (p : Pattern) : Type 0 where
   pub fine : FineP ns p
-  pub shallow : deepP p ≤ 64
+  pub shallow : deepP p ≤ 100
 
 -- how many arguments a built-in function takes
 abbrev pub Takes : Builtin → ℕ → Type 0
@@ -75,12 +127,15 @@ abbrev mutual
   FineE ns sc (receive cs) = FineCs ns sc cs
   FineE ns sc (receive-until cs e b) = FineCs ns sc cs × FineE ns sc e × FineB ns sc b
   FineE ns sc (catch b) = FineB ns sc b
+
   pub FineEs : List Name → List Name → Exprs → Type 0
   FineEs ns sc no-e = Unit {0}
   FineEs ns sc (and-e e es) = FineE ns sc e × FineEs ns sc es
+
   pub FineB : List Name → List Name → Body → Type 0
   FineB ns sc (last e) = FineE ns sc e
   FineB ns sc (bind p e b) = Matchable ns p × FineE ns sc e × FineB ns (bound-by p sc) b
+
   pub FineCs : List Name → List Name → Clauses → Type 0
   FineCs ns sc no-c = Unit {0}
   FineCs ns sc (clause p b cs) = Matchable ns p × FineB ns (bound-by p sc) b × FineCs ns sc cs

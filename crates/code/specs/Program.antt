@@ -35,6 +35,7 @@ pub record Definition : Type 0 where
 abbrev pub define : ℕ → List Function → List Definition → List Definition
 define n [] ds = ds
 define n (f ∷ fs) ds = record { place = n; function = f } ∷ define n fs ds
+
 abbrev pub definitions : ℕ → Program → List Definition
 definitions n [] = []
 definitions n (m ∷ ms) = define n (m .functions) (definitions (suc n) ms)
@@ -46,7 +47,9 @@ scope-of f = reverse (f .params)
 -- the functions of one name, in a chain
 abbrev pub treeD : List Name → Name → List Definition → Tree
 treeD ns x [] = nothing
-treeD ns x (d ∷ ds) = cond (same (d .function .name) x) (node functions-kind (node function-kind (leaf signature-kind (d .place) (length (d .function .params))) (treeB ns (scope-of (d .function)) (d .function .body))) (treeD ns x ds)) (treeD ns x ds)
+treeD ns x (d ∷ ds) = cond (same (d .function .name) x)
+    (node functions-kind (node function-kind (leaf signature-kind (d .place) (length (d .function .params)))
+    (treeB ns (scope-of (d .function)) (d .function .body))) (treeD ns x ds)) (treeD ns x ds)
 
 abbrev pub nth : {A : Type 0} → List A → ℕ → Option A
 nth [] n = none
@@ -61,5 +64,6 @@ Fine-definitions ns (d ∷ ds) = FineB ns (scope-of (d .function)) (d .function 
 -- the program g stands in the code's cells: slot i of the table `functions` denotes the chain of the functions whose name
 -- has the number i, the newest first
 pub record Stands (ns : List Name) (code : Store) (functions : List ℕ) (g : Program) : Type 0 where
-  pub chains : (i : ℕ) (x : Name) → nth ns i ≡ some x → Den code (slotAt functions i) (treeD ns x (reverse (definitions 0 g)))
+  pub chains : (i : ℕ) (x : Name) → nth ns i ≡ some x →
+      Den code (slotAt functions i) (treeD ns x (reverse (definitions 0 g)))
   pub fine : Fine-definitions ns (definitions 0 g)

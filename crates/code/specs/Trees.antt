@@ -3,12 +3,93 @@
 use mathlib.Core.List.{List, [], _∷_}
 use Prim.Native.Nat.{ℕ}
 use Rattle.meaning.specs.Basics.{Name}
-use Rattle.meaning.specs.Syntax.{Pattern, p-any, p-var, p-int, p-atom, p-tuple, p-nil, p-cons, Patterns, no-p, and-p, Operator, plus, minus, times, divide, modulo, equal, unequal, less, at-most, Builtin, send, self, link, exit, trap, show, register, whereis, swap, Operation, make-tuple, make-pair, call, far-call, spawn, far-spawn, operate, built-in, Expr, int, atom, var, nil, apply, case, receive, receive-until, catch, Exprs, no-e, and-e, Body, last, bind, Clauses, no-c, clause}
+use Rattle.meaning.specs.Syntax.{
+  Pattern,
+  p-any,
+  p-var,
+  p-int,
+  p-atom,
+  p-tuple,
+  p-nil,
+  p-cons,
+  Patterns,
+  no-p,
+  and-p,
+  Operator,
+  plus,
+  minus,
+  times,
+  divide,
+  modulo,
+  equal,
+  unequal,
+  less,
+  at-most,
+  Builtin,
+  send,
+  self,
+  link,
+  exit,
+  trap,
+  show,
+  register,
+  whereis,
+  swap,
+  Operation,
+  make-tuple,
+  make-pair,
+  call,
+  far-call,
+  spawn,
+  far-spawn,
+  operate,
+  built-in,
+  Expr,
+  int,
+  atom,
+  var,
+  nil,
+  apply,
+  case,
+  receive,
+  receive-until,
+  catch,
+  Exprs,
+  no-e,
+  and-e,
+  Body,
+  last,
+  bind,
+  Clauses,
+  no-c,
+  clause,
+}
 use Rattle.meaning.specs.Bound.{bound-by}
 use Rattle.meaning.specs.Grammar.{count}
 use Rattle.store.specs.Tree.{Tree, leaf, node}
 use Rattle.values.specs.Encoding.{indexOf, number}
-use Rattle.code.specs.Kinds.{variable-kind, any-kind, bind-kind, make-tuple-kind, make-pair-kind, call-kind, spawn-kind, operator-kind, builtin-kind, far-kind, operand-kind, case-kind, receive-kind, until-kind, timeout-kind, catch-kind, statement-kind, then-kind, clauses-kind, clause-kind}
+use Rattle.code.specs.Kinds.{
+  variable-kind,
+  any-kind,
+  bind-kind,
+  make-tuple-kind,
+  make-pair-kind,
+  call-kind,
+  spawn-kind,
+  operator-kind,
+  builtin-kind,
+  far-kind,
+  operand-kind,
+  case-kind,
+  receive-kind,
+  until-kind,
+  timeout-kind,
+  catch-kind,
+  statement-kind,
+  then-kind,
+  clauses-kind,
+  clause-kind,
+}
 
 abbrev pub nothing : Tree
 nothing = leaf 2 0 0
@@ -25,6 +106,7 @@ abbrev mutual
   treeP ns (p-tuple ps) = treePs ns ps
   treeP ns p-nil = nothing
   treeP ns (p-cons a b) = node 16 (treeP ns a) (treeP ns b)
+
   pub treePs : List Name → Patterns → Tree
   treePs ns no-p = leaf 4 0 0
   treePs ns (and-p p ps) = node 17 (treeP ns p) (treePs ns ps)
@@ -72,14 +154,20 @@ abbrev mutual
   treeE ns sc (apply o es) = treeEs ns sc (treeO ns o (count es)) es
   treeE ns sc (case e cs) = node case-kind (treeE ns sc e) (treeCs ns sc cs)
   treeE ns sc (receive cs) = node receive-kind (treeCs ns sc cs) nothing
-  treeE ns sc (receive-until cs e b) = node until-kind (treeCs ns sc cs) (node timeout-kind (treeE ns sc e) (treeB ns sc b))
+  treeE ns sc (receive-until cs e b) =
+      node until-kind (treeCs ns sc cs) (node timeout-kind (treeE ns sc e) (treeB ns sc b))
   treeE ns sc (catch b) = node catch-kind (treeB ns sc b) nothing
+
   pub treeEs : List Name → List Name → Tree → Exprs → Tree
   treeEs ns sc end no-e = end
   treeEs ns sc end (and-e e es) = node operand-kind (treeE ns sc e) (treeEs ns sc end es)
+
   pub treeB : List Name → List Name → Body → Tree
   treeB ns sc (last e) = treeE ns sc e
-  treeB ns sc (bind p e b) = node statement-kind (treeP ns p) (node then-kind (treeE ns sc e) (treeB ns (bound-by p sc) b))
+  treeB ns sc (bind p e b) = node statement-kind (treeP ns p)
+      (node then-kind (treeE ns sc e) (treeB ns (bound-by p sc) b))
+
   pub treeCs : List Name → List Name → Clauses → Tree
   treeCs ns sc no-c = nothing
-  treeCs ns sc (clause p b cs) = node clauses-kind (node clause-kind (treeP ns p) (treeB ns (bound-by p sc) b)) (treeCs ns sc cs)
+  treeCs ns sc (clause p b cs) = node clauses-kind (node clause-kind (treeP ns p) (treeB ns (bound-by p sc) b))
+      (treeCs ns sc cs)

@@ -15,7 +15,11 @@ use store::write_slot;
 const PAIR: u32 = 16;
 
 fn number(n: u32) -> Slot {
-    Slot { kind: 0, low: n, high: 0 }
+    Slot {
+        kind: 0,
+        low: n,
+        high: 0,
+    }
 }
 
 /// The list of the numbers below n, the last first, in front of `end`.
@@ -46,7 +50,10 @@ fn shared(heap: &mut Heap<'_>, n: u32) -> Result<Slot, Full> {
 fn long_lists_are_compared(rt: LibcRuntime) -> Result<(), Fail> {
     let mut words = vec![in rt.alloc(); 0; 1_800_000]?;
     let mut scratch = [0; 6];
-    let mut heap = Heap { words: &mut words, used: 0 };
+    let mut heap = Heap {
+        words: &mut words,
+        used: 0,
+    };
     let one = list(&mut heap, 100_000, number(1))?;
     let two = list(&mut heap, 100_000, number(1))?;
     let other = list(&mut heap, 100_000, number(2))?;
@@ -62,7 +69,10 @@ fn long_lists_are_compared(rt: LibcRuntime) -> Result<(), Fail> {
 fn a_list_is_collected(rt: LibcRuntime) -> Result<(), Fail> {
     let mut words = vec![in rt.alloc(); 0; 600_000]?;
     let mut roots = [0; 6];
-    let mut heap = Heap { words: &mut words, used: 0 };
+    let mut heap = Heap {
+        words: &mut words,
+        used: 0,
+    };
     let all = list(&mut heap, 100_000, number(1))?;
     write_slot(&mut roots, 0, number(5))?;
     write_slot(&mut roots, 1, all)?;
@@ -70,7 +80,10 @@ fn a_list_is_collected(rt: LibcRuntime) -> Result<(), Fail> {
     check_eq(collect(&words, &mut other, &mut roots), Ok(100_000))?;
     check_eq(read_slot(&roots, 0), number(5))?;
     let copy = read_slot(&roots, 1);
-    let mut heap = Heap { words: &mut other, used: 100_000 };
+    let mut heap = Heap {
+        words: &mut other,
+        used: 100_000,
+    };
     let again = list(&mut heap, 100_000, number(1))?;
     check_eq(heap.equal(copy, again, &mut [0; 6], 100_000), Ok(true))
 }
@@ -79,7 +92,10 @@ fn a_list_is_collected(rt: LibcRuntime) -> Result<(), Fail> {
 fn sharing_is_undone(rt: LibcRuntime) -> Result<(), Fail> {
     let mut words = [0; 120];
     let mut roots = [0; 3];
-    let mut heap = Heap { words: &mut words, used: 0 };
+    let mut heap = Heap {
+        words: &mut words,
+        used: 0,
+    };
     let all = shared(&mut heap, 20)?;
     write_slot(&mut roots, 0, all)?;
     let mut short = vec![in rt.alloc(); 0; 6_291_449]?;
@@ -92,10 +108,16 @@ fn sharing_is_undone(rt: LibcRuntime) -> Result<(), Fail> {
 #[test]
 fn the_last_cell_fits() -> Result<(), Fail> {
     let mut none = [0; 0];
-    let mut heap = Heap { words: &mut none, used: 0 };
+    let mut heap = Heap {
+        words: &mut none,
+        used: 0,
+    };
     check_eq(heap.put(PAIR, number(1), number(2)), Err(Full))?;
     let mut two = [0; 17];
-    let mut heap = Heap { words: &mut two, used: 0 };
+    let mut heap = Heap {
+        words: &mut two,
+        used: 0,
+    };
     let first = heap.put(PAIR, number(1), number(2))?;
     let second = heap.put(PAIR, number(3), first)?;
     check_eq(heap.put(PAIR, number(4), second), Err(Full))?;
@@ -106,8 +128,22 @@ fn the_last_cell_fits() -> Result<(), Fail> {
 #[test]
 fn words_end_anywhere() -> Result<(), Fail> {
     let mut words = [1, 2, 3, 4, 5];
-    check_eq(read_slot(&words, 0), Slot { kind: 1, low: 2, high: 3 })?;
-    check_eq(read_slot(&words, 1), Slot { kind: 4, low: 5, high: 0 })?;
+    check_eq(
+        read_slot(&words, 0),
+        Slot {
+            kind: 1,
+            low: 2,
+            high: 3,
+        },
+    )?;
+    check_eq(
+        read_slot(&words, 1),
+        Slot {
+            kind: 4,
+            low: 5,
+            high: 0,
+        },
+    )?;
     check_eq(read_slot(&words, 2), Slot::ZERO)?;
     check_eq(write_slot(&mut words, 1, number(9)), Err(Full))?;
     check_eq(words[3], 4)
