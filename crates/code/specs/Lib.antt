@@ -5,3 +5,4 @@ pub mod Fine
 pub mod Program
 pub mod Environment
 pub mod Code
+pub mod Clauses
