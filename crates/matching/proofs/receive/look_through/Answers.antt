@@ -49,7 +49,7 @@ messages-again c =
       w .long ∙ (p .long ∙ c .messages .inv .0),
       kept-trans (c .messages .inv .1) (kept-trans (p .kept) (w .cases .kept)),
       looking-goes-on (c .messages-test .taken) (c .both-cell .ensures .left) (c .both-cell .ensures .right) (c .messages .inv .1) (p .kept) (chosen-is (c .in-None .is) (p .cases))
-      (w .cases) (c .messages .inv .2),
+          (w .cases) (c .messages .inv .2),
     )
 
 pub returns : need.returns
