@@ -12,7 +12,8 @@ use Rattle.code.specs.Environment.{Chain, Environment}
 use Rattle.store.proofs.Laws.{leaf-stands, leaf-is, node-is, left-at, right-at, keeps}
 
 -- what stood there still does when cells are added
-pub chain-kept : {ns : List Name} {m m′ : Store} {s : Slot} {vs : List Value} → Kept m m′ → Chain ns m s vs → Chain ns m′ s vs
+pub chain-kept : {ns : List Name} {m m′ : Store} {s : Slot} {vs : List Value} → Kept m m′ → Chain ns m s vs
+    → Chain ns m′ s vs
 chain-kept g h = record { fine = h .fine; stands = keeps g (h .stands) }
 
 pub environment-kept : {ns : List Name} {m m′ : Store} {s : Slot} {sc : List Name} {bs : List Binding} → Kept m m′
@@ -24,7 +25,8 @@ pub chain-end : {ns : List Name} {m : Store} → Chain ns m (record { kind = 2; 
 chain-end = record { fine = tt; stands = leaf-stands 2 0 0 (omega arith) }
 
 -- a slot of another kind has none
-pub chain-none : {ns : List Name} {m : Store} {s : Slot} (vs : List Value) → (s .kind ≡ 31 → ⊥) → Chain ns m s vs → vs ≡ []
+pub chain-none : {ns : List Name} {m : Store} {s : Slot} (vs : List Value) → (s .kind ≡ 31 → ⊥) → Chain ns m s vs
+    → vs ≡ []
 chain-none [] n h = refl
 chain-none (v ∷ vs) n h = absurd (n (node-is (h .stands)))
 
@@ -36,7 +38,8 @@ pub record First-of (ns : List Name) (m : Store) (first rest : Slot) (vs : List 
   pub head-at : Holds ns m first head
   pub tail-at : Chain ns m rest tail
 
-pub chain-first : {ns : List Name} {m : Store} {s first rest : Slot} (vs : List Value) → s .kind ≡ 31 → first ≡ leftOf (m .words) s
+pub chain-first : {ns : List Name} {m : Store} {s first rest : Slot} (vs : List Value) → s .kind ≡ 31
+    → first ≡ leftOf (m .words) s
     → rest ≡ rightOf (m .words) s → Chain ns m s vs → First-of ns m first rest vs
 chain-first {s} [] k l r h = absurd (omega (arith, k, ap (λ (q : Slot). q .kind) (leaf-is (h .stands))))
 chain-first (v ∷ vs) k l r h =
@@ -49,6 +52,7 @@ chain-first (v ∷ vs) k l r h =
     }
 
 -- a cell puts a value before others
-pub chain-more : {ns : List Name} {m m′ : Store} {a b r : Slot} {v : Value} {vs : List Value} → Put m m′ 31 a b r → Holds ns m a v → Chain ns m b vs
+pub chain-more : {ns : List Name} {m m′ : Store} {a b r : Slot} {v : Value} {vs : List Value} → Put m m′ 31 a b r
+    → Holds ns m a v → Chain ns m b vs
     → Chain ns m′ r (v ∷ vs)
 chain-more p h c = record { fine = (h .fine, c .fine); stands = p .stands (omega arith) (h .stands) (c .stands) }

@@ -13,15 +13,18 @@ use Rattle.code.specs.Clauses.{IsClause, ClausesAre}
 use Rattle.code.specs.declared.clauses.Clauses.the-variants.{End, First}
 use Rattle.store.proofs.Laws.{leaf-is, node-is, left-at, right-at}
 
-pub no-clauses : {ns sc : List Name} {words : List ℕ} {used : ℕ} {s : Slot} (cs : Cls) → (s .kind ≡ 27 → ⊥) → CodeCs ns sc (storeOf words used) s cs
+pub no-clauses : {ns sc : List Name} {words : List ℕ} {used : ℕ} {s : Slot} (cs : Cls) → (s .kind ≡ 27 → ⊥)
+    → CodeCs ns sc (storeOf words used) s cs
     → ClausesAre ns sc (storeOf words used) End cs
 no-clauses no-c n c = refl
 no-clauses (clause p b cs) n c = absurd (n (node-is (c .stands)))
 
 pub first-clause : {ns sc : List Name} {words : List ℕ} {used : ℕ} {s : Slot} {x y : Cell} (cs : Cls) → s .kind ≡ 27
-    → x .left ≡ leftOf words s → x .right ≡ rightOf words s → y .left ≡ leftOf words (x .left) → y .right ≡ rightOf words (x .left)
+    → x .left ≡ leftOf words s → x .right ≡ rightOf words s → y .left ≡ leftOf words (x .left)
+    → y .right ≡ rightOf words (x .left)
     → CodeCs ns sc (storeOf words used) s cs
-    → ClausesAre ns sc (storeOf words used) (First (record { pattern = y .left; body = y .right; rest = x .right })) cs
+    → ClausesAre ns sc (storeOf words used)
+    (First (record { pattern = y .left; body = y .right; rest = x .right })) cs
 first-clause {s} no-c k l r l′ r′ c = absurd (omega (arith, k, ap (λ (q : Slot). q .kind) (leaf-is (c .stands))))
 first-clause {ns} {sc} {words} {used} {s} {x} {y} (clause p b cs) k l r l′ r′ c =
     record {

@@ -38,4 +38,5 @@ ClausesAre ns sc code (First r) cs = IsClause ns sc code r cs
 
 -- r is what is to be seen of the slot s of the code, whatever clauses it holds
 pub record Views (words : List ℕ) (s : Slot) (r : Clauses) : Type 0 where
-  pub clauses : {ns sc : List Name} {used : ℕ} {cs : Cls} → CodeCs ns sc (storeOf words used) s cs → ClausesAre ns sc (storeOf words used) r cs
+  pub clauses : {ns sc : List Name} {used : ℕ} {cs : Cls} → CodeCs ns sc (storeOf words used) s cs
+      → ClausesAre ns sc (storeOf words used) r cs

@@ -1,6 +1,7 @@
--- The walk along two trees. A pattern's slot tells what its tree is: a leaf that fits everything, one that fits its like, or a
--- node, which fits a node of its kind if the left parts fit and then the right ones. So after each step to the right the trees
--- at hand fit as those at the start do, and the value's edge, which is at most as long as the cells in use, is one shorter.
+-- The walk along two trees. A pattern's slot tells what its tree is: a leaf that fits everything, one that fits its like,
+-- or a node, which fits a node of its kind if the left parts fit and then the right ones. So after each step to the right
+-- the trees at hand fit as those at the start do, and the value's edge, which is at most as long as the cells in use, is
+-- one shorter.
 use mathlib.Core.Bool.{Bool, true, false, _&&_, cond}
 use mathlib.Core.List.{List}
 use mathlib.Core.Option.{Option, some, none}
@@ -39,15 +40,19 @@ bind-binds k d = ap binders (leaf-of k (omega arith) d)
 
 -- a leaf is the same as a tree where the slots are alike
 same-leaf : {m : Store} (x y : Slot) (v : Tree) → x .kind < 16 → Den m y v
-    → sameTree (leaf (x .kind) (x .low) (x .high)) v ≡ (eqb (x .kind) (y .kind) && (eqb (x .low) (y .low) && eqb (x .high) (y .high)))
+    → sameTree (leaf (x .kind) (x .low) (x .high)) v ≡
+    (eqb (x .kind) (y .kind) && (eqb (x .low) (y .low) && eqb (x .high) (y .high)))
 same-leaf x y (leaf k l h) b d =
     ap (λ (q : Slot). eqb (x .kind) (q .kind) && (eqb (x .low) (q .low) && eqb (x .high) (q .high))) (sym (leaf-is d))
 same-leaf x y (node k a c) b d =
-    sym (ap (λ z. z && (eqb (x .low) (y .low) && eqb (x .high) (y .high))) (ne-eqb (x .kind) (y .kind) (λ e. omega (arith, node-kind d, node-is d))))
+    sym (ap (λ z. z && (eqb (x .low) (y .low) && eqb (x .high) (y .high)))
+        (ne-eqb (x .kind) (y .kind) (λ e. omega (arith, node-kind d, node-is d))))
 
-leaf-fit : (k l h : ℕ) (v e : Tree) → (k ≡ 6 → ⊥) → (k ≡ 7 → ⊥) → fit (leaf k l h) v e ≡ cond (sameTree (leaf k l h) v) (some e) none
+leaf-fit : (k l h : ℕ) (v e : Tree) → (k ≡ 6 → ⊥) → (k ≡ 7 → ⊥)
+    → fit (leaf k l h) v e ≡ cond (sameTree (leaf k l h) v) (some e) none
 leaf-fit k l h v e n n′ =
-    ap (λ z. cond z (some e) (cond (eqb k 7) (some (node 31 v e)) (cond (sameTree (leaf k l h) v) (some e) none))) (ne-eqb k 6 n)
+    ap (λ z. cond z (some e) (cond (eqb k 7) (some (node 31 v e)) (cond (sameTree (leaf k l h) v) (some e) none)))
+        (ne-eqb k 6 n)
     ∙ ap (λ z. cond z (some (node 31 v e)) (cond (sameTree (leaf k l h) v) (some e) none)) (ne-eqb k 7 n′)
 
 fit-leaf : {m m′ : Store} {s y x : Slot} {p v : Tree} (e : Tree) {b : Bool} → PatternIs s (Leaf x)
@@ -58,7 +63,8 @@ fit-leaf {m} {m′} {s} {y} {x} {p} {v} e {b} k a d d′ =
     ∙ (leaf-fit (s .kind) (s .low) (s .high) v e (k .2) (k .3)
     ∙ ap (λ z. cond z (some e) none)
     (same-leaf s y v (k .1) d′
-    ∙ sym (a ∙ ap (λ (q : Slot). eqb (q .kind) (y .kind) && (eqb (q .low) (y .low) && eqb (q .high) (y .high))) (k .0))))
+    ∙ sym (a ∙ ap (λ (q : Slot). eqb (q .kind) (y .kind) && (eqb (q .low) (y .low) && eqb (q .high) (y .high)))
+    (k .0))))
 
 leaf-binds : {m : Store} {s x : Slot} {p : Tree} → PatternIs s (Leaf x) → Den m s p → binders p ≡ 0
 leaf-binds {m} {s} {x} {p} k d = ap binders (is-leaf p (k .1) d) ∙ ap (λ z. cond z 1 0) (ne-eqb (s .kind) 7 (k .3))
@@ -67,19 +73,34 @@ leaf-binds {m} {s} {x} {p} k d = ap binders (is-leaf p (k .1) d) ∙ ap (λ z. c
 fit-nodes : (k : ℕ) (a b c d e : Tree) → fit (node k a b) (node k c d) e ≡ on-some (fit a c e) (fit b d)
 fit-nodes k a b c d e = ap (λ z. cond z (on-some (fit a c e) (fit b d)) none) (eq-eqb k k refl)
 
-fit-other : (k : ℕ) (a b : Tree) {m : Store} {y : Slot} (v e : Tree) → (k ≡ y .kind → ⊥) → Den m y v → fit (node k a b) v e ≡ none
+fit-other : (k : ℕ) (a b : Tree) {m : Store} {y : Slot} (v e : Tree) → (k ≡ y .kind → ⊥) → Den m y v
+    → fit (node k a b) v e ≡ none
 fit-other k a b (leaf k′ l h) e n d = refl
-fit-other k a b (node k′ x z) e n d = ap (λ z′. cond z′ (on-some (fit a x e) (fit b z)) none) (ne-eqb k k′ (λ q. n (q ∙ sym (node-is d))))
+fit-other k a b (node k′ x z) e n d = ap (λ z′. cond z′ (on-some (fit a x e) (fit b z)) none)
+    (ne-eqb k k′ (λ q. n (q ∙ sym (node-is d))))
 
 -- The walk, step by step.
-pub fitting-starts : {code : List ℕ} {m : Store} {depth : ℕ} {pattern value env : Slot} → Fitting code m m depth pattern value env pattern value env (m .used)
+pub fitting-starts : {code : List ℕ} {m : Store} {depth : ℕ} {pattern value env : Slot}
+    → Fitting code m m depth pattern value env pattern value env (m .used)
 fitting-starts =
     record {
       hand = λ {used} {p} {v} {e} a b c d.
-          record { p = p; v = v; e = e; pattern-at = a; value-at = b; env-at = c; shallow = d; short = spine-fits b; same = refl; count = refl };
+          record {
+            p = p;
+            v = v;
+            e = e;
+            pattern-at = a;
+            value-at = b;
+            env-at = c;
+            shallow = d;
+            short = spine-fits b;
+            same = refl;
+            count = refl;
+          };
     }
 
-pub fits-any : {code : List ℕ} {m₀ m : Store} {depth left : ℕ} {p₀ v₀ e₀ p v e : Slot} → PatternIs p Any → Fitting code m₀ m depth p₀ v₀ e₀ p v e left
+pub fits-any : {code : List ℕ} {m₀ m : Store} {depth left : ℕ} {p₀ v₀ e₀ p v e : Slot} → PatternIs p Any
+    → Fitting code m₀ m depth p₀ v₀ e₀ p v e left
     → FitTo code m₀ m depth p₀ v₀ e₀ (Some e)
 fits-any k f =
     record {
@@ -92,7 +113,8 @@ fits-any k f =
           };
     }
 
-pub fits-bind : {code : List ℕ} {m₀ m m′ : Store} {depth left : ℕ} {p₀ v₀ e₀ p v e r : Slot} → PatternIs p Bind → Put m m′ 31 v e r
+pub fits-bind : {code : List ℕ} {m₀ m m′ : Store} {depth left : ℕ} {p₀ v₀ e₀ p v e r : Slot} → PatternIs p Bind
+    → Put m m′ 31 v e r
     → Fitting code m₀ m depth p₀ v₀ e₀ p v e left → FitTo code m₀ m′ depth p₀ v₀ e₀ (Some r)
 fits-bind k q f =
     record {
@@ -105,13 +127,16 @@ fits-bind k q f =
           };
     }
 
-pub lacks-bind : {code : List ℕ} {m₀ m : Store} {depth left : ℕ} {p₀ v₀ e₀ p v e : Slot} → PatternIs p Bind → length (m .words) ≡ length (m₀ .words)
-    → length (m .words) < 6 * (m .used + 1) → Fitting code m₀ m depth p₀ v₀ e₀ p v e left → FitLacks code m₀ depth p₀ v₀ e₀
+pub lacks-bind : {code : List ℕ} {m₀ m : Store} {depth left : ℕ} {p₀ v₀ e₀ p v e : Slot} → PatternIs p Bind
+    → length (m .words) ≡ length (m₀ .words)
+    → length (m .words) < 6 * (m .used + 1) → Fitting code m₀ m depth p₀ v₀ e₀ p v e left
+    → FitLacks code m₀ depth p₀ v₀ e₀
 lacks-bind k l q f =
     record { short = λ a b c d. let h = f .hand a b c d in omega (arith, h .count, bind-binds k (h .pattern-at)) }
 
 pub fits-alike : {code : List ℕ} {m₀ m : Store} {depth left : ℕ} {p₀ v₀ e₀ p v e x : Slot} → PatternIs p (Leaf x)
-    → true ≡ (eqb (x .kind) (v .kind) && (eqb (x .low) (v .low) && eqb (x .high) (v .high))) → Fitting code m₀ m depth p₀ v₀ e₀ p v e left
+    → true ≡ (eqb (x .kind) (v .kind) && (eqb (x .low) (v .low) && eqb (x .high) (v .high)))
+    → Fitting code m₀ m depth p₀ v₀ e₀ p v e left
     → FitTo code m₀ m depth p₀ v₀ e₀ (Some e)
 fits-alike k q f =
     record {
@@ -125,21 +150,25 @@ fits-alike k q f =
     }
 
 pub misfit-leaf : {code : List ℕ} {m₀ m : Store} {depth left : ℕ} {p₀ v₀ e₀ p v e x : Slot} → PatternIs p (Leaf x)
-    → false ≡ (eqb (x .kind) (v .kind) && (eqb (x .low) (v .low) && eqb (x .high) (v .high))) → Fitting code m₀ m depth p₀ v₀ e₀ p v e left
+    → false ≡ (eqb (x .kind) (v .kind) && (eqb (x .low) (v .low) && eqb (x .high) (v .high)))
+    → Fitting code m₀ m depth p₀ v₀ e₀ p v e left
     → FitTo code m₀ m depth p₀ v₀ e₀ None
 misfit-leaf k q f =
     record { to = λ a b c d. let h = f .hand a b c d in h .same ∙ fit-leaf (h .e) k q (h .pattern-at) (h .value-at) }
 
 -- a pattern that is a node, with its parts
 node-of : {code : Store} {p x : Slot} {t : Tree} → PatternIs p (Node x) → Den code p t → IsNode code x t
-node-of {code} {t = t} k d = is-node t (subst (λ (q : Slot). 16 ≤ q .kind) (sym (k .0)) (k .1)) (subst (λ (q : Slot). Den code q t) (sym (k .0)) d)
+node-of {code} {t = t} k d = is-node t (subst (λ (q : Slot). 16 ≤ q .kind) (sym (k .0)) (k .1))
+    (subst (λ (q : Slot). Den code q t) (sym (k .0)) d)
 
-pub misfit-kind : {code : List ℕ} {m₀ m : Store} {depth left : ℕ} {p₀ v₀ e₀ p v e x : Slot} → PatternIs p (Node x) → (x .kind ≡ v .kind → ⊥)
+pub misfit-kind : {code : List ℕ} {m₀ m : Store} {depth left : ℕ} {p₀ v₀ e₀ p v e x : Slot} → PatternIs p (Node x)
+    → (x .kind ≡ v .kind → ⊥)
     → Fitting code m₀ m depth p₀ v₀ e₀ p v e left → FitTo code m₀ m depth p₀ v₀ e₀ None
 misfit-kind {x} k n f =
     record {
       to = λ a b c d. let h = f .hand a b c d in let q = node-of k (h .pattern-at) in
-          h .same ∙ (ap (λ t. fit t (h .v) (h .e)) (q .is) ∙ fit-other (x .kind) (q .one) (q .two) (h .v) (h .e) n (h .value-at));
+          h .same ∙ (ap (λ t. fit t (h .v) (h .e)) (q .is)
+              ∙ fit-other (x .kind) (q .one) (q .two) (h .v) (h .e) n (h .value-at));
     }
 
 -- both at hand are nodes of one kind
@@ -160,7 +189,8 @@ record Two-nodes (code m₀ m : Store) (depth left : ℕ) (x v env : Slot) (p₀
   same : fit p₀ v₀ e₀ ≡ on-some (fit a c e) (fit b d)
   count : m .used + (binders a + binders b) ≡ m₀ .used + binders p₀
 
-two-nodes : {code m₀ m : Store} {depth left : ℕ} {p v env x : Slot} {p₀ v₀ e₀ : Tree} → PatternIs p (Node x) → x .kind ≡ v .kind
+two-nodes : {code m₀ m : Store} {depth left : ℕ} {p v env x : Slot} {p₀ v₀ e₀ : Tree} → PatternIs p (Node x)
+    → x .kind ≡ v .kind
     → At-hand code m₀ m depth p v env left p₀ v₀ e₀ → Two-nodes code m₀ m depth left x v env p₀ v₀ e₀
 two-nodes {depth} {left} {v} {x} k s h =
     let q = node-of k (h .pattern-at) in
@@ -183,20 +213,24 @@ two-nodes {depth} {left} {v} {x} k s h =
       short = omega (arith, sp);
       same = h .same
           ∙ (ap (λ t. fit t (h .v) (h .e)) (q .is ∙ ap (λ i. node i (q .one) (q .two)) s)
-          ∙ (ap (λ t. fit (node (v .kind) (q .one) (q .two)) t (h .e)) (y .is) ∙ fit-nodes (v .kind) (q .one) (q .two) (y .one) (y .two) (h .e)));
+          ∙ (ap (λ t. fit (node (v .kind) (q .one) (q .two)) t (h .e)) (y .is)
+          ∙ fit-nodes (v .kind) (q .one) (q .two) (y .one) (y .two) (h .e)));
       count = omega (arith, h .count, ap binders (q .is));
     }
 
-pub misfit-edge : {code : List ℕ} {m₀ m : Store} {depth left : ℕ} {p₀ v₀ e₀ p v e x : Slot} → PatternIs p (Node x) → x .kind ≡ v .kind → left ≡ 0
+pub misfit-edge : {code : List ℕ} {m₀ m : Store} {depth left : ℕ} {p₀ v₀ e₀ p v e x : Slot} → PatternIs p (Node x)
+    → x .kind ≡ v .kind → left ≡ 0
     → Fitting code m₀ m depth p₀ v₀ e₀ p v e left → FitTo code m₀ m depth p₀ v₀ e₀ None
 misfit-edge k s z f = record { to = λ a b c d. absurd (omega (arith, two-nodes k s (f .hand a b c d) .short)) }
 
-pub misfit-deep : {code : List ℕ} {m₀ m : Store} {depth left : ℕ} {p₀ v₀ e₀ p v e x : Slot} → PatternIs p (Node x) → x .kind ≡ v .kind → depth ≡ 0
+pub misfit-deep : {code : List ℕ} {m₀ m : Store} {depth left : ℕ} {p₀ v₀ e₀ p v e x : Slot} → PatternIs p (Node x)
+    → x .kind ≡ v .kind → depth ≡ 0
     → Fitting code m₀ m depth p₀ v₀ e₀ p v e left → FitTo code m₀ m depth p₀ v₀ e₀ None
 misfit-deep k s z f = record { to = λ a b c d. absurd (omega (arith, two-nodes k s (f .hand a b c d) .shallow-left)) }
 
 -- what was found is this
-pub found-is : {code : List ℕ} {m m′ : Store} {depth : ℕ} {p v e : Slot} {found o : Maybe Slot} → found ≡ o → FitTo code m m′ depth p v e found
+pub found-is : {code : List ℕ} {m m′ : Store} {depth : ℕ} {p v e : Slot} {found o : Maybe Slot} → found ≡ o
+    → FitTo code m m′ depth p v e found
     → FitTo code m m′ depth p v e o
 found-is {code} {m} {m′} {depth} {p} {v} {e} q f = subst (λ (o : Maybe Slot). FitTo code m m′ depth p v e o) q f
 
@@ -205,7 +239,8 @@ read-at : {m : Store} {s s′ : Slot} {t : Tree} → s′ ≡ s → Den m s t �
 read-at {m} {t = t} q d = subst (λ (z : Slot). Den m z t) (sym q) d
 
 -- what the walk over the left parts ends with: they do not fit, there is no room, or the right parts are next
-pub misfit-left : {code : List ℕ} {m₀ m m₁ : Store} {depth left : ℕ} {p₀ v₀ e₀ p v e x x₁ v₁ : Slot} → PatternIs p (Node x) → x .kind ≡ v .kind
+pub misfit-left : {code : List ℕ} {m₀ m m₁ : Store} {depth left : ℕ} {p₀ v₀ e₀ p v e x x₁ v₁ : Slot}
+    → PatternIs p (Node x) → x .kind ≡ v .kind
     → x₁ ≡ leftOf code x → v₁ ≡ leftOf (m .words) v → FitTo code m m₁ (depth - 1) x₁ v₁ e None
     → Fitting code m₀ m depth p₀ v₀ e₀ p v e left → FitTo code m₀ m₁ depth p₀ v₀ e₀ None
 misfit-left k s l l′ o f =
@@ -213,26 +248,33 @@ misfit-left k s l l′ o f =
       to = λ a b c d. let h = two-nodes k s (f .hand a b c d) in
           h .same
           ∙ ap (λ z. on-some z (fit (h .b) (h .d)))
-          (o .to (read-at l (h .left-pattern)) (read-at l′ (h .left-value)) (h .env-at) (omega (arith, h .shallow-left)));
+          (o .to (read-at l (h .left-pattern)) (read-at l′ (h .left-value)) (h .env-at)
+              (omega (arith, h .shallow-left)));
     }
 
-pub lacks-left : {code : List ℕ} {m₀ m : Store} {depth left : ℕ} {p₀ v₀ e₀ p v e x x₁ v₁ : Slot} → PatternIs p (Node x) → x .kind ≡ v .kind
-    → x₁ ≡ leftOf code x → v₁ ≡ leftOf (m .words) v → length (m .words) ≡ length (m₀ .words) → FitLacks code m (depth - 1) x₁ v₁ e
+pub lacks-left : {code : List ℕ} {m₀ m : Store} {depth left : ℕ} {p₀ v₀ e₀ p v e x x₁ v₁ : Slot}
+    → PatternIs p (Node x) → x .kind ≡ v .kind
+    → x₁ ≡ leftOf code x → v₁ ≡ leftOf (m .words) v → length (m .words) ≡ length (m₀ .words)
+    → FitLacks code m (depth - 1) x₁ v₁ e
     → Fitting code m₀ m depth p₀ v₀ e₀ p v e left → FitLacks code m₀ depth p₀ v₀ e₀
 lacks-left k s l l′ n o f =
     record {
       short = λ a b c d. let h = two-nodes k s (f .hand a b c d) in
-          omega (arith, h .count, o .short (read-at l (h .left-pattern)) (read-at l′ (h .left-value)) (h .env-at) (omega (arith, h .shallow-left)));
+          omega (arith, h .count, o .short (read-at l (h .left-pattern)) (read-at l′ (h .left-value)) (h .env-at)
+              (omega (arith, h .shallow-left)));
     }
 
-pub fitting-goes-on : {code : List ℕ} {m₀ m m₁ : Store} {depth left : ℕ} {p₀ v₀ e₀ p v e x x₁ x₂ v₁ v₂ e₁ : Slot} → PatternIs p (Node x)
-    → x .kind ≡ v .kind → x₁ ≡ leftOf code x → x₂ ≡ rightOf code x → v₁ ≡ leftOf (m .words) v → v₂ ≡ rightOf (m .words) v
+pub fitting-goes-on : {code : List ℕ} {m₀ m m₁ : Store} {depth left : ℕ} {p₀ v₀ e₀ p v e x x₁ x₂ v₁ v₂ e₁ : Slot}
+    → PatternIs p (Node x)
+    → x .kind ≡ v .kind → x₁ ≡ leftOf code x → x₂ ≡ rightOf code x → v₁ ≡ leftOf (m .words) v
+    → v₂ ≡ rightOf (m .words) v
     → Kept m m₁ → FitTo code m m₁ (depth - 1) x₁ v₁ e (Some e₁)
     → Fitting code m₀ m depth p₀ v₀ e₀ p v e left → Fitting code m₀ m₁ depth p₀ v₀ e₀ x₂ v₂ e₁ (left - 1)
 fitting-goes-on k s l r l′ r′ g o f =
     record {
       hand = λ a b c d. let h = two-nodes k s (f .hand a b c d) in
-          let y = o .to (read-at l (h .left-pattern)) (read-at l′ (h .left-value)) (h .env-at) (omega (arith, h .shallow-left)) in
+          let y = o .to (read-at l (h .left-pattern)) (read-at l′ (h .left-value)) (h .env-at)
+              (omega (arith, h .shallow-left)) in
           record {
             p = h .b;
             v = h .d;

@@ -3,3 +3,4 @@ pub mod Agreeing
 pub mod Choosing
 pub mod Turning
 pub mod Receiving
+pub mod Laws

@@ -32,7 +32,8 @@ pub record ChosenAt (ns : List Name) (code m : Store) (r : Chosen) (c : Choice) 
   pub body-at : CodeB ns scope code (r .body) (c .body)
   pub env-at : Environment ns m (r .env) scope (c .vars)
 
-pub record Chose (ns : List Name) (code m m′ : Store) (cs : Clauses) (v : Value) (bs : List Binding) (r : Chosen) : Type 0 where
+pub record Chose (ns : List Name) (code m m′ : Store) (cs : Clauses) (v : Value) (bs : List Binding)
+    (r : Chosen) : Type 0 where
   pub choice : Choice
   pub is : choose cs v bs ≡ some choice
   pub chosen-at : ChosenAt ns code m′ r choice
@@ -44,23 +45,27 @@ Choice-ends ns code m m′ cs v bs (Some r) = Chose ns code m m′ cs v bs r
 
 -- some clause is chosen, or none matches, and then no cell is taken
 pub record Chooses (code : List ℕ) (m m′ : Store) (clauses value env : Slot) (found : Maybe Chosen) : Type 0 where
-  pub to : {ns sc : List Name} {used : ℕ} {cs : Clauses} {v : Value} {bs : List Binding} → CodeCs ns sc (storeOf code used) clauses cs
+  pub to : {ns sc : List Name} {used : ℕ} {cs : Clauses} {v : Value} {bs : List Binding}
+      → CodeCs ns sc (storeOf code used) clauses cs
       → Holds ns m value v → Environment ns m env sc bs → Choice-ends ns (storeOf code used) m m′ cs v bs found
   pub spared : found ≡ None → m′ .used ≡ m .used
 
 -- there are fewer cells left than names that the pattern of some clause binds, and none is taken
 pub record ChoiceLacks (code : List ℕ) (m m′ : Store) (clauses value env : Slot) : Type 0 where
-  pub short : {ns sc : List Name} {used : ℕ} {cs : Clauses} {v : Value} {bs : List Binding} → CodeCs ns sc (storeOf code used) clauses cs
+  pub short : {ns sc : List Name} {used : ℕ} {cs : Clauses} {v : Value} {bs : List Binding}
+      → CodeCs ns sc (storeOf code used) clauses cs
       → Holds ns m value v → Environment ns m env sc bs → length (m .words) < 6 * (m .used + most-names cs)
   pub spared : m′ .used ≡ m .used
 
 -- the answer is whether some clause matches
 pub record Wakes (code : List ℕ) (m : Store) (clauses value env : Slot) (answer : Bool) : Type 0 where
-  pub is : {ns sc : List Name} {used : ℕ} {cs : Clauses} {v : Value} {bs : List Binding} → CodeCs ns sc (storeOf code used) clauses cs
+  pub is : {ns sc : List Name} {used : ℕ} {cs : Clauses} {v : Value} {bs : List Binding}
+      → CodeCs ns sc (storeOf code used) clauses cs
       → Holds ns m value v → Environment ns m env sc bs → answer ≡ opt (choose cs v bs) false (λ c. true)
 
 -- how choosing stands: the clauses at hand, of which the first that matches is the first of all
-pub record Clauses-left (ns sc : List Name) (code : Store) (rest : Slot) (left : ℕ) (cs : Clauses) (v : Value) (bs : List Binding) : Type 0 where
+pub record Clauses-left (ns sc : List Name) (code : Store) (rest : Slot) (left : ℕ) (cs : Clauses) (v : Value)
+    (bs : List Binding) : Type 0 where
   pub clauses : Clauses
   pub clauses-at : CodeCs ns sc code rest clauses
   pub short : spine (treeCs ns sc clauses) ≤ left + 1
@@ -68,6 +73,7 @@ pub record Clauses-left (ns sc : List Name) (code : Store) (rest : Slot) (left :
   pub fewer : most-names clauses ≤ most-names cs
 
 pub record Choosing (code : List ℕ) (m₀ m : Store) (clauses value env rest : Slot) (left : ℕ) : Type 0 where
-  pub hand : {ns sc : List Name} {used : ℕ} {cs : Clauses} {v : Value} {bs : List Binding} → CodeCs ns sc (storeOf code used) clauses cs
+  pub hand : {ns sc : List Name} {used : ℕ} {cs : Clauses} {v : Value} {bs : List Binding}
+      → CodeCs ns sc (storeOf code used) clauses cs
       → Holds ns m₀ value v → Environment ns m₀ env sc bs → Clauses-left ns sc (storeOf code used) rest left cs v bs
   pub spared : m .used ≡ m₀ .used

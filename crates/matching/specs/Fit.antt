@@ -1,5 +1,5 @@
--- A pattern's tree against a value's tree: leaves match leaves that are the same, nodes match nodes of the same kind, the left
--- part first; what is bound is put before the environment, a chain of values.
+-- A pattern's tree against a value's tree: leaves match leaves that are the same, nodes match nodes of the same kind, the
+-- left part first; what is bound is put before the environment, a chain of values.
 use mathlib.Core.Bool.{cond}
 use mathlib.Core.List.{List}
 use mathlib.Core.Option.{Option, some, none}
@@ -45,16 +45,20 @@ Fit-ends m m′ p v e None = fit p v e ≡ none
 Fit-ends m m′ p v e (Some r) = Fitted m m′ p v e r
 
 -- a walk ends with an environment or with nothing, or there are fewer cells left than values to bind
-pub record FitTo (code : List ℕ) (m m′ : Store) (depth : ℕ) (pattern value env : Slot) (found : Maybe Slot) : Type 0 where
-  pub to : {used : ℕ} {p v e : Tree} → Den (storeOf code used) pattern p → Den m value v → Den m env e → deep p ≤ depth
+pub record FitTo (code : List ℕ) (m m′ : Store) (depth : ℕ) (pattern value env : Slot)
+    (found : Maybe Slot) : Type 0 where
+  pub to : {used : ℕ} {p v e : Tree} → Den (storeOf code used) pattern p → Den m value v → Den m env e
+      → deep p ≤ depth
       → Fit-ends m m′ p v e found
 
 pub record FitLacks (code : List ℕ) (m : Store) (depth : ℕ) (pattern value env : Slot) : Type 0 where
-  pub short : {used : ℕ} {p v e : Tree} → Den (storeOf code used) pattern p → Den m value v → Den m env e → deep p ≤ depth
+  pub short : {used : ℕ} {p v e : Tree} → Den (storeOf code used) pattern p → Den m value v → Den m env e
+      → deep p ≤ depth
       → length (m .words) < 6 * (m .used + binders p)
 
--- how a walk stands on the right edge, of which so much is left at most: the trees at hand, which fit as those at the start do
-pub record At-hand (code m₀ m : Store) (depth : ℕ) (pattern value env : Slot) (left : ℕ) (p₀ v₀ e₀ : Tree) : Type 0 where
+-- how a walk stands on the right edge, of which so much is left at most: the trees at hand fit as those at the start do
+pub record At-hand (code m₀ m : Store) (depth : ℕ) (pattern value env : Slot) (left : ℕ)
+    (p₀ v₀ e₀ : Tree) : Type 0 where
   pub p : Tree
   pub v : Tree
   pub e : Tree
@@ -66,6 +70,8 @@ pub record At-hand (code m₀ m : Store) (depth : ℕ) (pattern value env : Slot
   pub same : fit p₀ v₀ e₀ ≡ fit p v e
   pub count : m .used + binders p ≡ m₀ .used + binders p₀
 
-pub record Fitting (code : List ℕ) (m₀ m : Store) (depth : ℕ) (pattern₀ value₀ env₀ pattern value env : Slot) (left : ℕ) : Type 0 where
-  pub hand : {used : ℕ} {p v e : Tree} → Den (storeOf code used) pattern₀ p → Den m₀ value₀ v → Den m₀ env₀ e → deep p ≤ depth
+pub record Fitting (code : List ℕ) (m₀ m : Store) (depth : ℕ) (pattern₀ value₀ env₀ pattern value env : Slot)
+    (left : ℕ) : Type 0 where
+  pub hand : {used : ℕ} {p v e : Tree} → Den (storeOf code used) pattern₀ p → Den m₀ value₀ v → Den m₀ env₀ e
+      → deep p ≤ depth
       → At-hand (storeOf code used) m₀ m depth pattern value env left p v e

@@ -1,4 +1,5 @@
--- Matching in cells. In reading order: a pattern's tree against a value's, patterns against values.
+-- Matching in cells. In reading order: a pattern's tree against a value's tree, patterns against values, the first clause
+-- that matches, mailboxes, and the first message that some clause matches.
 pub mod Fit
 pub mod Matches
 pub mod Choices

@@ -11,8 +11,12 @@ use Rattle.values.specs.Encoding.{Holds}
 use Rattle.code.specs.Environment.{Chain}
 use Rattle.matching.specs.declared.mailbox.Mailbox.{Mailbox}
 
--- the mailbox holds these messages, in the order in which they came; of those in `seen` it is known that the clauses at hand
--- match none
+-- the slot of a chain without messages
+abbrev pub no-messages : Slot
+no-messages = record { kind = 2; low = 0; high = 0 }
+
+-- the mailbox holds these messages, in the order in which they came; of those in `seen` it is known that the clauses at
+-- hand match none
 pub record Mail (ns : List Name) (m : Store) (b : Mailbox) (mail : List Value) : Type 0 where
   pub seen : List Value
   pub front : List Value
@@ -44,7 +48,8 @@ pub record Rewound (m m′ : Store) (b b′ : Mailbox) : Type 0 where
 
 -- a chain is turned round before another, by a cell for each message
 pub record Turned (m m′ : Store) (chain onto r : Slot) : Type 0 where
-  pub chains : {ns : List Name} {xs ys : List Value} → Chain ns m chain xs → Chain ns m onto ys → Chain ns m′ r (reverse xs ++ ys)
+  pub chains : {ns : List Name} {xs ys : List Value} → Chain ns m chain xs → Chain ns m onto ys
+      → Chain ns m′ r (reverse xs ++ ys)
   pub count : {ns : List Name} {xs : List Value} → Chain ns m chain xs → m′ .used ≡ m .used + length xs
 
 pub record TurnLacks (m : Store) (chain : Slot) : Type 0 where
@@ -52,6 +57,7 @@ pub record TurnLacks (m : Store) (chain : Slot) : Type 0 where
 
 -- how turning stands: the messages left, and those that are done
 pub record Turning (m₀ m : Store) (chain onto rest done : Slot) : Type 0 where
-  pub left : {ns : List Name} {xs : List Value} → Chain ns m₀ chain xs → (us : List Value) × Chain ns m rest us × (m .used + length us ≡ m₀ .used + length xs)
+  pub left : {ns : List Name} {xs : List Value} → Chain ns m₀ chain xs → (us : List Value) × Chain ns m rest us
+      × (m .used + length us ≡ m₀ .used + length xs)
   pub chains : {ns : List Name} {xs ys : List Value} → Chain ns m₀ chain xs → Chain ns m₀ onto ys
       → (us ws : List Value) × Chain ns m rest us × Chain ns m done ws × (reverse us ++ ws ≡ reverse xs ++ ys)

@@ -32,7 +32,8 @@ abbrev mutual
   names-all (and-p p ps) = names p + names-all ps
 
 -- r holds the environment with what p binds in v, for a cell a name
-pub record Bound (ns sc : List Name) (m m′ : Store) (p : Pattern) (v : Value) (bs : List Binding) (r : Slot) : Type 0 where
+pub record Bound (ns sc : List Name) (m m′ : Store) (p : Pattern) (v : Value) (bs : List Binding)
+    (r : Slot) : Type 0 where
   pub bindings : List Binding
   pub is : match p v bs ≡ some bindings
   pub env : Environment ns m′ r (bound-by p sc) bindings
@@ -44,12 +45,14 @@ Match-ends ns sc m m′ p v bs (Some r) = Bound ns sc m m′ p v bs r
 
 -- the pattern matches the value, or it does not, and then no cell is taken
 pub record Matches (code : List ℕ) (m m′ : Store) (pattern value env : Slot) (found : Maybe Slot) : Type 0 where
-  pub to : {ns sc : List Name} {used : ℕ} {bs : List Binding} {p : Pattern} {v : Value} → CodeP ns (storeOf code used) pattern p
+  pub to : {ns sc : List Name} {used : ℕ} {bs : List Binding} {p : Pattern} {v : Value}
+      → CodeP ns (storeOf code used) pattern p
       → Holds ns m value v → Environment ns m env sc bs → Match-ends ns sc m m′ p v bs found
   pub spared : found ≡ None → m′ .used ≡ m .used
 
 -- there are fewer cells left than names that the pattern binds, and none is taken
 pub record MatchLacks (code : List ℕ) (m m′ : Store) (pattern value env : Slot) : Type 0 where
-  pub short : {ns sc : List Name} {used : ℕ} {bs : List Binding} {p : Pattern} {v : Value} → CodeP ns (storeOf code used) pattern p
+  pub short : {ns sc : List Name} {used : ℕ} {bs : List Binding} {p : Pattern} {v : Value}
+      → CodeP ns (storeOf code used) pattern p
       → Holds ns m value v → Environment ns m env sc bs → length (m .words) < 6 * (m .used + names p)
   pub spared : m′ .used ≡ m .used

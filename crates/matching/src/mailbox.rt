@@ -11,7 +11,7 @@ use store::Heap;
 use store::Slot;
 use values::NIL;
 
-/// Messages in order: `seen` from its end, which the clauses at hand do not match, then `front`, then `back` from its end.
+/// Messages in order: `seen` from its end, which the clauses at hand do not match; `front`; and `back` from its end.
 #[derive(Clone, Copy)]
 pub struct Mailbox {
     pub seen: Slot,
@@ -54,8 +54,8 @@ pub fn push(heap: &mut Heap<'_>, mailbox: Mailbox, message: Slot) -> Result<Mail
     }
 }
 
-/// The mailbox with all messages to be looked at, as other clauses need them; refuses where there is no cell for each that was
-/// seen.
+/// The mailbox with all messages to be looked at again, by other clauses; refuses where there is no cell for each that
+/// was seen.
 pub fn rewind(heap: &mut Heap<'_>, mailbox: Mailbox) -> Result<Mailbox, Full>
     ensures long { λ _. ⌜ length (now (heap .exit) .words .now) ≡ length (now (heap .entry) .words .now) ⌝ }
     ensures kept { λ _. ⌜ Kept (stored (now (heap .entry))) (stored (now (heap .exit))) ⌝ }

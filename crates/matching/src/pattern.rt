@@ -21,7 +21,7 @@ const DEPTH: u32 = 64;
 pub const VALUES: u32 = 31;
 
 /// The environment with what the pattern binds in the value, if it matches; refuses where there is no cell for each name
-/// that the pattern binds. What it does not bind takes no cells.
+/// that the pattern binds. If it does not match, no cell is taken.
 pub fn fits(
     code: &[u32],
     heap: &mut Heap<'_>,
@@ -52,7 +52,7 @@ pub fn fits(
     }
 }
 
-/// The same, of a pattern that nests at most `depth` deep: a loop along the right edge, and a call for each part to the left.
+/// The same, of a pattern that nests at most `depth` deep: a loop along the right edge, and a call for each left part.
 fn fits_within(
     code: &[u32],
     heap: &mut Heap<'_>,

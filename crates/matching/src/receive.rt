@@ -44,9 +44,9 @@ pub enum Looked {
     Nothing(Slot),
 }
 
-/// Takes the first message that some clause matches, and leaves the others in order; what was seen is not looked at again.
-/// Refuses where there is no cell for each message in front, two for each in the back, and one for each name that the pattern
-/// of some clause binds.
+/// Takes the first message that some clause matches, and leaves the others in order; what was seen is not looked at
+/// again. Refuses where there is no cell for each message in front, two for each in the back, and one for each name that
+/// the pattern of some clause binds.
 pub fn take_first(
     code: &[u32],
     heap: &mut Heap<'_>,

@@ -7,7 +7,12 @@ pub clauses-holds : need.clauses-holds
 clauses-holds c = (refl, kept-refl, choosing-starts)
 
 pub returns-in-End : need.returns-in-End
-returns-in-End c = record { long = c .clauses .inv .0; kept = c .clauses .inv .1; cases = chooses-none (c .in-End .ensures tt) (c .clauses .inv .2) }
+returns-in-End c =
+    record {
+      long = c .clauses .inv .0;
+      kept = c .clauses .inv .1;
+      cases = chooses-none (c .in-End .ensures tt) (c .clauses .inv .2);
+    }
 
 pub returns-in-Err : need.returns-in-Err
 returns-in-Err c =
@@ -15,7 +20,8 @@ returns-in-Err c =
     record {
       long = p .long ∙ c .clauses .inv .0;
       kept = kept-trans (c .clauses .inv .1) (p .kept);
-      cases = choice-lacks (c .in-First .ensures tt) (c .clauses .inv .1) (c .clauses .inv .0) (p .cases) (c .clauses .inv .2);
+      cases = choice-lacks (c .in-First .ensures tt) (c .clauses .inv .1) (c .clauses .inv .0) (p .cases)
+          (c .clauses .inv .2);
     }
 
 pub returns-in-Some : need.returns-in-Some
@@ -24,7 +30,8 @@ returns-in-Some c =
     record {
       long = p .long ∙ c .clauses .inv .0;
       kept = kept-trans (c .clauses .inv .1) (p .kept);
-      cases = chooses-some (c .in-First .ensures tt) (c .clauses .inv .1) (matched-is (c .in-Some .is) (p .cases)) (c .clauses .inv .2);
+      cases = chooses-some (c .in-First .ensures tt) (c .clauses .inv .1) (matched-is (c .in-Some .is) (p .cases))
+          (c .clauses .inv .2);
     }
 
 pub returns-then-left-eq0 : need.returns-then-left-eq0
@@ -33,7 +40,8 @@ returns-then-left-eq0 c =
     record {
       long = p .long ∙ c .clauses .inv .0;
       kept = kept-trans (c .clauses .inv .1) (p .kept);
-      cases = chooses-last (c .in-First .ensures tt) (c .clauses .inv .1) (matched-is (c .in-None .is) (p .cases)) (c .if-left-eq0 .taken) (c .clauses .inv .2);
+      cases = chooses-last (c .in-First .ensures tt) (c .clauses .inv .1) (matched-is (c .in-None .is) (p .cases))
+          (c .if-left-eq0 .taken) (c .clauses .inv .2);
     }
 
 pub clauses-again : need.clauses-again
@@ -41,5 +49,6 @@ clauses-again c =
     let p = c .in-Ok .ensures tt in (
       p .long ∙ c .clauses .inv .0,
       kept-trans (c .clauses .inv .1) (p .kept),
-      choosing-goes-on (c .in-First .ensures tt) (c .clauses .inv .1) (matched-is (c .in-None .is) (p .cases)) (c .if-left-eq0 .left) (c .clauses .inv .2),
+      choosing-goes-on (c .in-First .ensures tt) (c .clauses .inv .1) (matched-is (c .in-None .is) (p .cases))
+          (c .if-left-eq0 .left) (c .clauses .inv .2),
     )

@@ -12,7 +12,8 @@ returns-in-Err c =
     record {
       long = p .long ∙ c .messages .inv .0;
       kept = kept-same (p .cases .same) (c .messages .inv .1);
-      cases = turn-lacks (c .messages-test .taken) (c .both-cell .ensures .left) (c .both-cell .ensures .right) (c .messages .inv .0) (p .cases .short) (c .messages .inv .2);
+      cases = turn-lacks (c .messages-test .taken) (c .both-cell .ensures .left) (c .both-cell .ensures .right)
+          (c .messages .inv .0) (p .cases .short) (c .messages .inv .2);
     }
 
 pub messages-less : need.messages-less
@@ -23,8 +24,14 @@ messages-again c =
     let p = c .in-Ok .ensures tt in (
       p .long ∙ c .messages .inv .0,
       kept-trans (c .messages .inv .1) (p .cases .kept),
-      turning-goes-on (c .messages-test .taken) (c .both-cell .ensures .left) (c .both-cell .ensures .right) (p .cases) (c .messages .inv .2),
+      turning-goes-on (c .messages-test .taken) (c .both-cell .ensures .left) (c .both-cell .ensures .right)
+          (p .cases) (c .messages .inv .2),
     )
 
 pub returns : need.returns
-returns c = record { long = c .messages .inv .0; kept = c .messages .inv .1; cases = turned (c .messages-test .left) (c .messages .inv .2) }
+returns c =
+    record {
+      long = c .messages .inv .0;
+      kept = c .messages .inv .1;
+      cases = turned (c .messages-test .left) (c .messages .inv .2);
+    }

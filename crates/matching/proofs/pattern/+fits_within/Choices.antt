@@ -11,7 +11,8 @@ abbrev pub Inv-parts : given.InvT-parts
 Inv-parts l =
     (length (l .heap .words .now) ≡ length (l .entry .heap .words .now))
     × Kept (stored (l .entry .heap)) (stored (l .heap))
-    × Fitting (l .code) (stored (l .entry .heap)) (stored (l .heap)) (l .depth) (l .entry .pattern) (l .entry .value) (l .entry .env) (l .pattern) (l .value) (l .env) (l .left)
+    × Fitting (l .code) (stored (l .entry .heap)) (stored (l .heap)) (l .depth) (l .entry .pattern) (l .entry .value)
+    (l .entry .env) (l .pattern) (l .value) (l .env) (l .left)
 
 abbrev pub μ-parts : given.MeasureT-parts
 μ-parts l = l .left

@@ -13,7 +13,8 @@ returns-in-Err c =
     record {
       long = p .long ∙ c .messages .inv .0;
       kept = kept-trans (c .messages .inv .1) (p .kept);
-      cases = look-lacks-choice (c .messages-test .taken) (c .both-cell .ensures .left) (c .both-cell .ensures .right) (c .messages .inv .1) (c .messages .inv .0) (p .cases) (c .messages .inv .2);
+      cases = look-lacks-choice (c .messages-test .taken) (c .both-cell .ensures .left) (c .both-cell .ensures .right)
+          (c .messages .inv .1) (c .messages .inv .0) (p .cases) (c .messages .inv .2);
     }
 
 pub returns-in-Some : need.returns-in-Some
@@ -22,7 +23,8 @@ returns-in-Some c =
     record {
       long = p .long ∙ c .messages .inv .0;
       kept = kept-trans (c .messages .inv .1) (p .kept);
-      cases = sees-first (c .messages-test .taken) (c .both-cell .ensures .left) (c .both-cell .ensures .right) (c .messages .inv .1) (p .kept) (chosen-is (c .in-Some .is) (p .cases)) (c .messages .inv .2);
+      cases = sees-first (c .messages-test .taken) (c .both-cell .ensures .left) (c .both-cell .ensures .right)
+          (c .messages .inv .1) (p .kept) (chosen-is (c .in-Some .is) (p .cases)) (c .messages .inv .2);
     }
 
 pub returns-in-Err-put : need.returns-in-Err-put
@@ -33,7 +35,8 @@ returns-in-Err-put c =
     record {
       long = w .long ∙ (p .long ∙ c .messages .inv .0);
       kept = kept-same (w .cases .same) (kept-trans (c .messages .inv .1) (p .kept));
-      cases = look-lacks-cell (c .messages-test .taken) (c .both-cell .ensures .left) (c .both-cell .ensures .right) (p .long) (c .messages .inv .0) x (w .cases .short) (c .messages .inv .2);
+      cases = look-lacks-cell (c .messages-test .taken) (c .both-cell .ensures .left) (c .both-cell .ensures .right)
+          (p .long) (c .messages .inv .0) x (w .cases .short) (c .messages .inv .2);
     }
 
 pub messages-less : need.messages-less
@@ -48,9 +51,15 @@ messages-again c =
     let w = c .in-Ok-put .ensures tt in (
       w .long ∙ (p .long ∙ c .messages .inv .0),
       kept-trans (c .messages .inv .1) (kept-trans (p .kept) (w .cases .kept)),
-      looking-goes-on (c .messages-test .taken) (c .both-cell .ensures .left) (c .both-cell .ensures .right) (c .messages .inv .1) (p .kept) (chosen-is (c .in-None .is) (p .cases))
+      looking-goes-on (c .messages-test .taken) (c .both-cell .ensures .left) (c .both-cell .ensures .right)
+          (c .messages .inv .1) (p .kept) (chosen-is (c .in-None .is) (p .cases))
           (w .cases) (c .messages .inv .2),
     )
 
 pub returns : need.returns
-returns c = record { long = c .messages .inv .0; kept = c .messages .inv .1; cases = sees-none (c .messages-test .left) (c .messages .inv .2) }
+returns c =
+    record {
+      long = c .messages .inv .0;
+      kept = c .messages .inv .1;
+      cases = sees-none (c .messages-test .left) (c .messages .inv .2);
+    }

@@ -4,12 +4,20 @@ use Rattle.matching.proofs.Receiving.{looked-is, taken-is, takes-front, takes-
 use Rattle.matching.proofs.receive.take_first.Needs as need
 
 pub returns-in-Err : need.returns-in-Err
-returns-in-Err c = let p = c .in-Err .ensures tt in record { long = p .long; kept = p .kept; cases = take-lacks-front (p .cases) }
+returns-in-Err c = let p = c .in-Err .ensures tt in record {
+  long = p .long;
+  kept = p .kept;
+  cases = take-lacks-front (p .cases);
+}
 
 pub returns-in-Found : need.returns-in-Found
 returns-in-Found c =
     let p = c .in-Ok .ensures tt in
-    record { long = p .long; kept = p .kept; cases = taken-is (c .with-back .ensures) (takes-front (p .kept) (looked-is (c .in-Found .is) (p .cases))) }
+    record {
+      long = p .long;
+      kept = p .kept;
+      cases = taken-is (c .with-back .ensures) (takes-front (p .kept) (looked-is (c .in-Found .is) (p .cases)));
+    }
 
 pub returns-in-Err-turn : need.returns-in-Err-turn
 returns-in-Err-turn c =
@@ -29,7 +37,8 @@ returns-in-Err-look-through c =
     record {
       long = q .long ∙ (t .long ∙ p .long);
       kept = kept-trans (kept-trans (p .kept) (t .kept)) (q .kept);
-      cases = take-lacks-back (t .long ∙ p .long) (looked-is (c .in-Nothing .is) (p .cases)) (p .kept) (t .cases) (t .kept) (q .cases);
+      cases = take-lacks-back (t .long ∙ p .long) (looked-is (c .in-Nothing .is) (p .cases)) (p .kept) (t .cases)
+          (t .kept) (q .cases);
     }
 
 pub returns-in-Found-in-back : need.returns-in-Found-in-back
@@ -41,7 +50,8 @@ returns-in-Found-in-back c =
       long = q .long ∙ (t .long ∙ p .long);
       kept = kept-trans (kept-trans (p .kept) (t .kept)) (q .kept);
       cases = taken-is (c .with-back-in-Found-in-back .ensures)
-          (takes-back (looked-is (c .in-Nothing .is) (p .cases)) (p .kept) (t .cases) (t .kept) (looked-is (c .in-Found-in-back .is) (q .cases)));
+          (takes-back (looked-is (c .in-Nothing .is) (p .cases)) (p .kept) (t .cases) (t .kept)
+              (looked-is (c .in-Found-in-back .is) (q .cases)));
     }
 
 pub returns-in-Nothing-in-back : need.returns-in-Nothing-in-back
@@ -52,5 +62,6 @@ returns-in-Nothing-in-back c =
     record {
       long = q .long ∙ (t .long ∙ p .long);
       kept = kept-trans (kept-trans (p .kept) (t .kept)) (q .kept);
-      cases = takes-none (looked-is (c .in-Nothing .is) (p .cases)) (p .kept) (t .cases) (t .kept) (looked-is (c .in-Nothing-in-back .is) (q .cases));
+      cases = takes-none (looked-is (c .in-Nothing .is) (p .cases)) (p .kept) (t .cases) (t .kept)
+          (looked-is (c .in-Nothing-in-back .is) (q .cases));
     }
