@@ -1,1 +1,3 @@
+pub mod Decoding
+pub mod Chains
 pub mod Fineness

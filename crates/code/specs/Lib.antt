@@ -5,4 +5,5 @@ pub mod Fine
 pub mod Program
 pub mod Environment
 pub mod Code
+pub mod Clauses
 pub mod Reading

@@ -2,6 +2,13 @@
 
 ghost use Rattle.code.specs.Reading.{Reads-fine};
 
+mod clauses;
+
+pub use clauses::CLAUSES;
+pub use clauses::Clause;
+pub use clauses::Clauses;
+pub use clauses::Pattern;
+
 /// All functions of a program that was read have trees of their own.
 pub fn reads_fine() -> u8
     ensures { λ _. ⌜ Reads-fine ⌝ }

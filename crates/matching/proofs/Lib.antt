@@ -1,0 +1,6 @@
+pub mod Fitting
+pub mod Agreeing
+pub mod Choosing
+pub mod Turning
+pub mod Receiving
+pub mod Laws
