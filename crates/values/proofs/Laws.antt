@@ -1,6 +1,6 @@
 -- The laws of values: what other crates use of this one besides its functions, in the order in which a reader needs them.
--- A slot of a store holds a value (`Holds`). It goes on to hold it while cells are made, a new cell of two values holds the
--- pair or the tuple of them, and the cells and the nesting of a value are within its size.
+-- A slot of a store holds a value (`Holds`), and at most one. It goes on to hold it while cells are made, a new cell of two
+-- values holds the pair or the tuple of them, and the cells and the nesting of a value are within its size.
 use mathlib.Core.Path.{_≡_, sym, ap, subst, _∙_}
 use mathlib.Core.List.{List}
 use Prim.Native.Nat.{ℕ, _*_, _≤_, _<_}
