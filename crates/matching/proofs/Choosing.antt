@@ -28,7 +28,7 @@ use Rattle.matching.specs.Choices.{most-names, Chooses, ChoiceLacks, Wakes, Cl
 use Rattle.matching.specs.Matches.{names, Matches, MatchLacks}
 use Rattle.matching.specs.declared.clause.Chosen.{Chosen}
 use Rattle.store.proofs.Laws.{spine-within}
-use Rattle.values.proofs.Shapes.{holds-kept}
+use Rattle.values.proofs.Laws.{holds-kept}
 use Rattle.code.proofs.Chains.{environment-kept}
 
 -- what was found is this

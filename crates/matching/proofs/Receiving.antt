@@ -28,7 +28,7 @@ use Rattle.matching.specs.declared.receive.Match.{Match}
 use Rattle.matching.specs.declared.receive.Received.{Received}
 use Rattle.matching.specs.declared.receive.Taken.the-variants.{Found, Nothing}
 use Rattle.store.proofs.Laws.{kept-trans}
-use Rattle.values.proofs.Shapes.{holds-kept}
+use Rattle.values.proofs.Laws.{holds-kept}
 use Rattle.code.proofs.Chains.{chain-kept, environment-kept, chain-end, chain-none, chain-first, chain-more}
 use Rattle.matching.proofs.Turning.{turn-one}
 
