@@ -9,7 +9,7 @@ use Rattle.store.specs.Heap.{storeOf, leftOf, rightOf}
 use Rattle.store.specs.declared.slot.Cell.{Cell}
 use Rattle.store.specs.declared.slot.Slot.{Slot}
 use Rattle.code.specs.Code.{CodeCs}
-use Rattle.code.specs.Clauses.{IsClause, ClausesAre}
+use Rattle.code.specs.Clauses.{ClausesAre}
 use Rattle.code.specs.declared.clauses.Clauses.the-variants.{End, First}
 use Rattle.store.proofs.Laws.{leaf-is, node-is, left-at, right-at}
 

@@ -2,32 +2,30 @@
 -- The two trees are shaped alike, so this is an induction on the pattern; a pattern that stands for one value has the tree
 -- of that value, and trees of values are the same where the values are.
 use mathlib.Core.Bool.{Bool, true, false, cond}
-use mathlib.Core.List.{List, [], _∷_}
+use mathlib.Core.List.{List, _∷_}
 use mathlib.Core.Option.{Option, some, none}
 use mathlib.Core.Path.{_≡_, refl, sym, ap, subst, _∙_}
-use Prim.Native.Nat.{ℕ, suc, max, _+_, _*_, _≤_, _<_}
+use Prim.Native.Nat.{ℕ, suc, max, _+_, _≤_}
 use native.Mathlib.Omega.{arith}
 use lib.IntN.{pos}
-use lib.ListN.{length}
 use borrow.Author.Tests.{lt-ltb}
-use Rattle.std.specs.declared.option.Option.{Option as Maybe}
 use Rattle.std.specs.declared.option.Option.the-variants.{Some, None}
 use Rattle.meaning.specs.Basics.{on-some, Name, same}
 use Rattle.meaning.specs.Bound.{bound-by, bound-by-all}
 use Rattle.meaning.specs.Syntax.{Pattern, p-any, p-var, p-int, p-atom, p-tuple, p-nil, p-cons, Patterns, no-p, and-p}
-use Rattle.meaning.specs.Space.{size-values, size-bindings, sizeV}
-use Rattle.meaning.specs.Values.{Value, v-int, v-atom, v-tuple, v-nil, v-cons, v-pid, Values, no-v, and-v, sameV, Binding, look-up, match, matches}
-use Rattle.store.specs.Heap.{Store, storeOf, Den}
-use Rattle.store.specs.Tree.{Tree, leaf, node, sameTree}
+use Rattle.meaning.specs.Space.{sizeV}
+use Rattle.meaning.specs.Values.{Value, v-int, v-atom, v-tuple, v-nil, v-cons, v-pid, Values, no-v, and-v, sameV, Binding, match, matches}
+use Rattle.store.specs.Heap.{Store, Den}
+use Rattle.store.specs.Tree.{Tree, node, sameTree}
 use Rattle.store.specs.declared.slot.Slot.{Slot}
-use Rattle.values.specs.Encoding.{treeV, treeVs, Fine, Fines, Holds}
+use Rattle.values.specs.Encoding.{treeV, treeVs, Fine, Fines}
 use Rattle.values.specs.Space.{chain}
 use Rattle.code.specs.Code.{CodeP}
-use Rattle.code.specs.Environment.{values-kind, Fine-values, Chain, pair-up, Binds, Environment}
+use Rattle.code.specs.Environment.{values-kind, Fine-values, Binds, Environment}
 use Rattle.code.specs.Fine.{deepP, deepPs, FineP, FinePs}
 use Rattle.code.specs.Trees.{nothing, treeP, treePs}
 use Rattle.matching.specs.Fit.{fit, binders, deep, FitTo, FitLacks}
-use Rattle.matching.specs.Matches.{names, names-all, Bound, Matches, MatchLacks}
+use Rattle.matching.specs.Matches.{names, names-all, Matches, MatchLacks}
 use Rattle.meaning.proofs.Splits.{no-clash}
 use Rattle.values.proofs.Comparing.{value-same}
 
@@ -84,7 +82,7 @@ mutual
   agrees ns sc (p-var x) v bs t f g h = bind-one x v g h
   agrees ns sc (p-int n) v bs t f g h =
       agree-cond (sameV (v-int (pos n)) v) (sameTree (treeV ns (v-int (pos n))) (treeV ns v))
-          (value-same ns (v-int (pos n)) v (lt-ltb n _ f) g) h
+      (value-same ns (v-int (pos n)) v (lt-ltb n _ f) g) h
   agrees ns sc (p-atom x) v bs t f g h =
       agree-cond (sameV (v-atom x) v) (sameTree (treeV ns (v-atom x)) (treeV ns v)) (value-same ns (v-atom x) v f g) h
   agrees ns sc (p-tuple no-p) (v-int z) bs t f g h = tt
@@ -107,7 +105,7 @@ mutual
   agrees ns sc (p-cons a b) v-nil bs t f g h = tt
   agrees ns sc (p-cons a b) (v-cons u w) bs t f g h =
       agree-then ns (bound-by a sc) (bound-by b (bound-by a sc)) (match a u bs) (fit (treeP ns a) (treeV ns u) t)
-          (λ cs. match b w cs) (fit (treeP ns b) (treeV ns w))
+      (λ cs. match b w cs) (fit (treeP ns b) (treeV ns w))
       (agrees ns sc a u bs t (f .0) (g .0) h) (λ cs t′ k. agrees ns (bound-by a sc) b w cs t′ (f .1) (g .1) k)
   agrees ns sc (p-cons a b) (v-pid n) bs t f g h = tt
 
@@ -119,7 +117,7 @@ mutual
   agree-all ns sc (and-p p ps) no-v bs t f g h = tt
   agree-all ns sc (and-p p ps) (and-v v vs) bs t f g h =
       agree-then ns (bound-by p sc) (bound-by-all ps (bound-by p sc)) (match p v bs) (fit (treeP ns p) (treeV ns v) t)
-          (λ cs. matches ps vs cs) (fit (treePs ns ps) (treeVs ns vs))
+      (λ cs. matches ps vs cs) (fit (treePs ns ps) (treeVs ns vs))
       (agrees ns sc p v bs t (f .0) (g .0) h) (λ cs t′ k. agree-all ns (bound-by p sc) ps vs cs t′ (f .1) (g .1) k)
 
 -- a pattern binds as many values as it has names, and nests as deep as its tree
@@ -190,8 +188,8 @@ matches-none f n =
     record {
       to = λ {ns} {sc} {used} {bs} {p} {v} a b c.
           agreed-none ns (bound-by p sc) (match p v bs) _
-              (agrees ns sc p v bs _ (a .fine .fine) (b .fine) (env-tree c))
-              (f .to (a .stands) (b .stands) (c .holds .stands) (shallow a));
+          (agrees ns sc p v bs _ (a .fine .fine) (b .fine) (env-tree c))
+          (f .to (a .stands) (b .stands) (c .holds .stands) (shallow a));
       spared = λ e. n;
     }
 
@@ -202,7 +200,7 @@ matches-some {m′ = m′} {r = r} f =
       to = λ {ns} {sc} {used} {bs} {p} {v} a b c.
           let y = f .to (a .stands) (b .stands) (c .holds .stands) (shallow a) in
           let z = agreed-some ns (bound-by p sc) (match p v bs) _ (y .tree)
-              (agrees ns sc p v bs _ (a .fine .fine) (b .fine) (env-tree c)) (y .is) in
+          (agrees ns sc p v bs _ (a .fine .fine) (b .fine) (env-tree c)) (y .is) in
           record {
             bindings = z .bindings;
             is = z .is;

@@ -1,10 +1,10 @@
 -- The first clause that matches is the first of those left, while those before did not match. Clauses are an edge of the
 -- code's cells, so after as many as the code has words, and one more, none is left.
-use mathlib.Core.Bool.{Bool, true, false}
+use mathlib.Core.Bool.{true, false}
 use mathlib.Core.List.{List}
 use mathlib.Core.Option.{some, none}
 use mathlib.Core.Path.{_≡_, refl, sym, ap, subst, _∙_}
-use Prim.Native.Nat.{ℕ, max, _+_, _-_, _*_, _≤_, _<_}
+use Prim.Native.Nat.{ℕ, _-_, _≤_}
 use native.Mathlib.Omega.{arith}
 use lib.ListN.{length}
 use Rattle.std.specs.declared.option.Option.{Option as Maybe}
@@ -18,14 +18,14 @@ use Rattle.store.specs.Heap.{Store, storeOf, Kept}
 use Rattle.store.specs.Tree.{spine}
 use Rattle.store.specs.declared.slot.Slot.{Slot}
 use Rattle.values.specs.Encoding.{Holds}
-use Rattle.code.specs.Clauses.{IsClause, Views}
+use Rattle.code.specs.Clauses.{Views}
 use Rattle.code.specs.Code.{CodeCs}
 use Rattle.code.specs.Environment.{Environment}
 use Rattle.code.specs.Trees.{treeCs}
 use Rattle.code.specs.declared.clauses.Clause.{Clause}
 use Rattle.code.specs.declared.clauses.Clauses.the-variants.{End, First}
-use Rattle.matching.specs.Choices.{most-names, Chooses, ChoiceLacks, Wakes, Clauses-left, Choosing}
-use Rattle.matching.specs.Matches.{names, Matches, MatchLacks}
+use Rattle.matching.specs.Choices.{most-names, Chooses, ChoiceLacks, Wakes, Choosing}
+use Rattle.matching.specs.Matches.{Matches, MatchLacks}
 use Rattle.matching.specs.declared.clause.Chosen.{Chosen}
 use Rattle.store.proofs.Laws.{spine-within}
 use Rattle.values.proofs.Laws.{holds-kept}
@@ -94,8 +94,14 @@ choice-lacks w g l x f =
       short = λ a b c.
           let h = f .hand a b c in
           let q = w .clauses (h .clauses-at) in
-          omega (arith, x .short (q .pattern-at) (holds-kept g b)
-              (environment-kept g c), f .spared, h .fewer, ap most-names (q .is));
+          omega (
+            arith,
+            x .short (q .pattern-at) (holds-kept g b)
+                (environment-kept g c),
+            f .spared,
+            h .fewer,
+            ap most-names (q .is),
+          );
       spared = x .spared ∙ f .spared;
     }
 

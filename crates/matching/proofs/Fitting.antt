@@ -4,7 +4,7 @@
 -- one shorter.
 use mathlib.Core.Bool.{Bool, true, false, _&&_, cond}
 use mathlib.Core.List.{List}
-use mathlib.Core.Option.{Option, some, none}
+use mathlib.Core.Option.{some, none}
 use mathlib.Core.Path.{_≡_, refl, sym, ap, subst, _∙_}
 use Prim.Native.Nat.{ℕ, suc, _+_, _-_, _*_, _≤_, _<_}
 use native.Mathlib.Omega.{arith}
@@ -14,13 +14,13 @@ use borrow.Author.Tests.{eq-eqb, ne-eqb}
 use Rattle.std.specs.declared.option.Option.{Option as Maybe}
 use Rattle.std.specs.declared.option.Option.the-variants.{Some, None}
 use Rattle.meaning.specs.Basics.{on-some}
-use Rattle.store.specs.Heap.{Store, storeOf, leftOf, rightOf, Den, Kept, Put}
+use Rattle.store.specs.Heap.{Store, leftOf, rightOf, Den, Kept, Put}
 use Rattle.store.specs.Tree.{Tree, leaf, node, spine, sameTree}
 use Rattle.store.specs.declared.slot.Slot.{Slot}
 use Rattle.code.specs.Clauses.{PatternIs}
 use Rattle.code.specs.declared.clauses.Pattern.the-variants.{Any, Bind, Leaf, Node}
-use Rattle.matching.specs.Fit.{fit, binders, deep, Fitted, FitTo, FitLacks, At-hand, Fitting}
-use Rattle.store.proofs.Laws.{leaf-is, node-is, is-leaf, IsNode, is-node, node-kind, left-at, right-at, kept-refl, keeps, spine-fits}
+use Rattle.matching.specs.Fit.{fit, binders, deep, FitTo, FitLacks, At-hand, Fitting}
+use Rattle.store.proofs.Laws.{leaf-is, node-is, is-leaf, IsNode, is-node, node-kind, keeps, spine-fits}
 
 -- what fits a leaf, by what its slot tells
 leaf-of : {m : Store} {s : Slot} {t : Tree} {k : ℕ} → s .kind ≡ k → k < 16 → Den m s t → t ≡ leaf k (s .low) (s .high)
@@ -46,13 +46,13 @@ same-leaf x y (leaf k l h) b d =
     ap (λ (q : Slot). eqb (x .kind) (q .kind) && (eqb (x .low) (q .low) && eqb (x .high) (q .high))) (sym (leaf-is d))
 same-leaf x y (node k a c) b d =
     sym (ap (λ z. z && (eqb (x .low) (y .low) && eqb (x .high) (y .high)))
-        (ne-eqb (x .kind) (y .kind) (λ e. omega (arith, node-kind d, node-is d))))
+    (ne-eqb (x .kind) (y .kind) (λ e. omega (arith, node-kind d, node-is d))))
 
 leaf-fit : (k l h : ℕ) (v e : Tree) → (k ≡ 6 → ⊥) → (k ≡ 7 → ⊥)
     → fit (leaf k l h) v e ≡ cond (sameTree (leaf k l h) v) (some e) none
 leaf-fit k l h v e n n′ =
     ap (λ z. cond z (some e) (cond (eqb k 7) (some (node 31 v e)) (cond (sameTree (leaf k l h) v) (some e) none)))
-        (ne-eqb k 6 n)
+    (ne-eqb k 6 n)
     ∙ ap (λ z. cond z (some (node 31 v e)) (cond (sameTree (leaf k l h) v) (some e) none)) (ne-eqb k 7 n′)
 
 fit-leaf : {m m′ : Store} {s y x : Slot} {p v : Tree} (e : Tree) {b : Bool} → PatternIs s (Leaf x)
@@ -168,7 +168,7 @@ misfit-kind {x} k n f =
     record {
       to = λ a b c d. let h = f .hand a b c d in let q = node-of k (h .pattern-at) in
           h .same ∙ (ap (λ t. fit t (h .v) (h .e)) (q .is)
-              ∙ fit-other (x .kind) (q .one) (q .two) (h .v) (h .e) n (h .value-at));
+          ∙ fit-other (x .kind) (q .one) (q .two) (h .v) (h .e) n (h .value-at));
     }
 
 -- both at hand are nodes of one kind
@@ -249,7 +249,7 @@ misfit-left k s l l′ o f =
           h .same
           ∙ ap (λ z. on-some z (fit (h .b) (h .d)))
           (o .to (read-at l (h .left-pattern)) (read-at l′ (h .left-value)) (h .env-at)
-              (omega (arith, h .shallow-left)));
+          (omega (arith, h .shallow-left)));
     }
 
 pub lacks-left : {code : List ℕ} {m₀ m : Store} {depth left : ℕ} {p₀ v₀ e₀ p v e x x₁ v₁ : Slot}
@@ -260,8 +260,12 @@ pub lacks-left : {code : List ℕ} {m₀ m : Store} {depth left : ℕ} {p₀ v�
 lacks-left k s l l′ n o f =
     record {
       short = λ a b c d. let h = two-nodes k s (f .hand a b c d) in
-          omega (arith, h .count, o .short (read-at l (h .left-pattern)) (read-at l′ (h .left-value)) (h .env-at)
-              (omega (arith, h .shallow-left)));
+          omega (
+            arith,
+            h .count,
+            o .short (read-at l (h .left-pattern)) (read-at l′ (h .left-value)) (h .env-at)
+                (omega (arith, h .shallow-left)),
+          );
     }
 
 pub fitting-goes-on : {code : List ℕ} {m₀ m m₁ : Store} {depth left : ℕ} {p₀ v₀ e₀ p v e x x₁ x₂ v₁ v₂ e₁ : Slot}
@@ -274,7 +278,7 @@ fitting-goes-on k s l r l′ r′ g o f =
     record {
       hand = λ a b c d. let h = two-nodes k s (f .hand a b c d) in
           let y = o .to (read-at l (h .left-pattern)) (read-at l′ (h .left-value)) (h .env-at)
-              (omega (arith, h .shallow-left)) in
+          (omega (arith, h .shallow-left)) in
           record {
             p = h .b;
             v = h .d;

@@ -2,7 +2,7 @@
 -- a pattern binds as many names as its scope has more, and looking takes at most two cells for each message.
 use mathlib.Core.List.{List, _++_, reverse}
 use mathlib.Core.Path.{_≡_, refl, ap}
-use Prim.Native.Nat.{ℕ, _+_, _*_, _≤_}
+use Prim.Native.Nat.{_+_, _*_, _≤_}
 use native.Mathlib.Omega.{arith}
 use lib.ListN.{length, length-append, length-reverse}
 use Rattle.meaning.specs.Basics.{Name}
@@ -60,6 +60,10 @@ mutual
 pub few-cells : {ns : List Name} {m : Store} {b : Mailbox} {mail : List Value} (h : Mail ns m b mail)
     → new-cells h ≤ 2 * length mail
 few-cells h =
-    omega
-    (arith, ap length (h .order), length-append (reverse (h .seen)) (h .front ++ reverse (h .back)),
-    length-append (h .front) (reverse (h .back)), length-reverse (h .back))
+    omega (
+      arith,
+      ap length (h .order),
+      length-append (reverse (h .seen)) (h .front ++ reverse (h .back)),
+      length-append (h .front) (reverse (h .back)),
+      length-reverse (h .back),
+    )

@@ -4,20 +4,19 @@
 use mathlib.Core.List.{List, [], _∷_, _++_, reverse, reverseAux, reverse-reverse, append-assoc, append-nil}
 use mathlib.Core.Option.{some, none}
 use mathlib.Core.Path.{_≡_, refl, sym, ap, subst, _∙_}
-use Prim.Native.Nat.{ℕ, _+_, _-_, _*_, _≤_, _<_}
+use Prim.Native.Nat.{ℕ, _+_, _-_, _*_, _<_}
 use native.Mathlib.Omega.{arith}
 use lib.ListN.{length, length-reverse}
 use Rattle.std.specs.declared.option.Option.the-variants.{Some, None}
 use Rattle.meaning.specs.Basics.{opt, Name}
 use Rattle.meaning.specs.Syntax.{Clauses}
-use Rattle.meaning.specs.Turns.{Chosen as Choice, choose, Taken as Took, take-first, keep-front}
+use Rattle.meaning.specs.Turns.{Chosen as Choice, choose, take-first, keep-front}
 use Rattle.meaning.specs.Values.{Value, Binding}
 use Rattle.store.specs.Heap.{Store, storeOf, leftOf, rightOf, Kept, Put}
 use Rattle.store.specs.declared.slot.Slot.{Slot}
-use Rattle.values.specs.Encoding.{Holds}
 use Rattle.code.specs.Code.{CodeCs}
 use Rattle.code.specs.Environment.{Chain, Environment}
-use Rattle.matching.specs.Choices.{most-names, Chooses, ChoiceLacks}
+use Rattle.matching.specs.Choices.{Chooses, ChoiceLacks}
 use Rattle.matching.specs.Mailboxes.{no-messages, Mail, Turned, TurnLacks}
 use Rattle.matching.specs.Receives.{Passed, new-cells, Takes, TakeLacks, Looks, LookLacks, Looking}
 use Rattle.matching.specs.declared.clause.Chosen.{Chosen}
@@ -54,7 +53,7 @@ take-found cs bs [] v ys c p e =
     ap (λ o. opt o (keep-front v (take-first cs bs ys)) (λ c′. some (record { chosen = c′; rest = ys }))) e
 take-found cs bs (x ∷ xs) v ys c p e =
     ap (λ o. opt o (keep-front x (take-first cs bs (xs ++ (v ∷ ys))))
-        (λ c′. some (record { chosen = c′; rest = xs ++ (v ∷ ys) }))) (p .0)
+    (λ c′. some (record { chosen = c′; rest = xs ++ (v ∷ ys) }))) (p .0)
     ∙ ap (keep-front x) (take-found cs bs xs v ys c (p .1) e)
 
 -- Looking through a chain.
@@ -245,8 +244,14 @@ back-turned k g t g′ a e h p =
       passed = y .passed;
       seen-at = chain-kept g′ (y .seen-at);
       next-at = t .chains (chain-kept g (h .back-at)) chain-end;
-      count = omega (arith, y .count, t .count (chain-kept g (h .back-at)), ap length
-          (append-nil (reverse (h .back))), length-reverse (h .back));
+      count = omega (
+        arith,
+        y .count,
+        t .count (chain-kept g (h .back-at)),
+        ap length
+            (append-nil (reverse (h .back))),
+        length-reverse (h .back),
+      );
     }
 
 -- one in the back
@@ -336,6 +341,10 @@ take-lacks-back n k g t g′ k′ =
     record {
       short = λ a e h p.
           let u = back-turned k g t g′ a e h p in
-          omega (arith, u .count, k′ .short a (environment-kept (kept-trans g g′) e) (u .seen-at) (u .next-at)
-              (u .passed));
+          omega (
+            arith,
+            u .count,
+            k′ .short a (environment-kept (kept-trans g g′) e) (u .seen-at) (u .next-at)
+                (u .passed),
+          );
     }

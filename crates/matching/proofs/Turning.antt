@@ -5,14 +5,13 @@ use mathlib.Core.Path.{_≡_, refl, sym, ap, subst, _∙_}
 use Prim.Native.Nat.{ℕ, _+_, _-_, _*_, _<_}
 use native.Mathlib.Omega.{arith}
 use lib.ListN.{length}
-use Rattle.meaning.specs.Basics.{Name}
 use Rattle.meaning.specs.Values.{Value}
 use Rattle.store.specs.Heap.{Store, leftOf, rightOf, Kept, Put}
 use Rattle.store.specs.declared.slot.Slot.{Slot}
 use Rattle.code.specs.Environment.{Chain}
-use Rattle.matching.specs.Mailboxes.{no-messages, Mail, Empty, Pushed, Rewound, Turned, TurnLacks, Turning}
+use Rattle.matching.specs.Mailboxes.{no-messages, Empty, Pushed, Rewound, Turned, TurnLacks, Turning}
 use Rattle.matching.specs.declared.mailbox.Mailbox.{Mailbox}
-use Rattle.code.proofs.Chains.{chain-kept, chain-end, chain-none, First-of, chain-first, chain-more}
+use Rattle.code.proofs.Chains.{chain-kept, chain-end, chain-none, chain-first, chain-more}
 
 -- one message goes over
 pub turn-one : (v : Value) (s r : List Value) → reverse (v ∷ s) ++ r ≡ reverse s ++ (v ∷ r)
@@ -52,7 +51,7 @@ turned {m₀} {m} {chain} {onto} {rest} {done} n t =
       chains = λ {ns} h o.
           let u = t .chains h o in
           subst (λ z. Chain ns m done z) (ap (λ z. reverse z ++ u .1) (sym (chain-none (u .0) n (u .2))) ∙ u .4)
-              (u .3);
+          (u .3);
       count = λ h. let u = t .left h in omega (arith, u .2, ap length (chain-none (u .0) n (u .1)));
     }
 
@@ -106,7 +105,7 @@ pushed p =
                   ∙ (append-assoc (reverse (h .seen)) (h .front ++ reverse (h .back)) (v ∷ [])
                   ∙ ap (λ z. reverse (h .seen) ++ z)
                   (append-assoc (h .front) (reverse (h .back)) (v ∷ [])
-                      ∙ ap (λ z. h .front ++ z) (sym (reverse-cons v (h .back)))));
+                  ∙ ap (λ z. h .front ++ z) (sym (reverse-cons v (h .back)))));
             };
             seen-is = refl;
           };

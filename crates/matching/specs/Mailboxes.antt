@@ -1,7 +1,7 @@
 -- A mailbox in cells: three chains of messages, and what is done to them.
 use mathlib.Core.List.{List, [], _∷_, _++_, reverse}
 use mathlib.Core.Path.{_≡_}
-use Prim.Native.Nat.{ℕ, _+_, _*_, _<_}
+use Prim.Native.Nat.{_+_, _*_, _<_}
 use lib.ListN.{length}
 use Rattle.meaning.specs.Basics.{Name}
 use Rattle.meaning.specs.Values.{Value}

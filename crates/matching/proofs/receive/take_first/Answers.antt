@@ -1,4 +1,4 @@
-use mathlib.Core.Path.{refl, _∙_}
+use mathlib.Core.Path.{_∙_}
 use Rattle.store.proofs.Laws.{kept-trans}
 use Rattle.matching.proofs.Receiving.{looked-is, taken-is, takes-front, takes-back, takes-none, take-lacks-front, take-lacks-turn, take-lacks-back}
 use Rattle.matching.proofs.receive.take_first.Needs as need
@@ -51,7 +51,7 @@ returns-in-Found-in-back c =
       kept = kept-trans (kept-trans (p .kept) (t .kept)) (q .kept);
       cases = taken-is (c .with-back-in-Found-in-back .ensures)
           (takes-back (looked-is (c .in-Nothing .is) (p .cases)) (p .kept) (t .cases) (t .kept)
-              (looked-is (c .in-Found-in-back .is) (q .cases)));
+          (looked-is (c .in-Found-in-back .is) (q .cases)));
     }
 
 pub returns-in-Nothing-in-back : need.returns-in-Nothing-in-back
