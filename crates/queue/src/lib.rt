@@ -1,46 +1,58 @@
 //! The scheduler's queue: this round's workers and the next round's, as two lines of numbers in lent words.
 
+ghost use mathlib.Core.Bool.{true};
+ghost use mathlib.Core.List.{[]};
 ghost use mathlib.Core.Path.{_≡_};
-ghost use mathlib.Core.List.{[], _∷_, _++_};
-ghost use Prim.Native.Nat.{_+_, _*_, _<_, _≤_};
+ghost use Prim.Native.Nat.{_+_, _-_, _/_, _≤_, _^_, min};
 ghost use lib.ListN.{length};
+ghost use Rattle.queue.specs.Lines.{before, before-room, behind, behind-room, front};
+ghost use Rattle.queue.specs.Lines.{Ended, Popped, Pushed, Same, Turned};
 ghost use Rattle.std.specs.Options.{Cases as BySome};
 ghost use Rattle.std.specs.Results.{Cases};
-ghost use Rattle.queue.specs.Lines.{before, behind};
+ghost use Rattle.store.specs.Slots.{placeOf, slotAt};
+use std::mem::swap;
 use store::Full;
 use store::Place;
-use store::Slot;
 use store::read_slot;
 use store::write_slot;
 
 /// The kind of the slots that hold a worker's number.
 const WORKER: u32 = 3;
 
-/// Two lines, each in lent words of its own, a slot a number: this round's has the entries from `at` up to `upto` still to
-/// come, and the next round's has `count`.
+/// Two lines, each in words of its own, a slot a number: this round's has those from `at` up to `upto` still to come, and
+/// the next round's has the first `count`.
 #[derive(Drop)]
 pub struct Queue<'a> {
-    pub this: &'a mut [u32],
-    pub next: &'a mut [u32],
-    pub at: usize,
-    pub upto: usize,
-    pub count: usize,
+    this: &'a mut [u32],
+    next: &'a mut [u32],
+    at: usize,
+    upto: usize,
+    count: usize,
 }
 
 impl<'a> Queue<'a> {
-    /// A queue with no entries.
+    /// A queue with no numbers; a line has room for one in every three words.
     pub fn new(this: &'a mut [u32], next: &'a mut [u32]) -> Queue<'a>
         ensures before { λ r. ⌜ before r ≡ [] ⌝ }
         ensures behind { λ r. ⌜ behind r ≡ [] ⌝ }
+        ensures room { λ r. ⌜ before-room r ≡ length (now (this .entry)) / 3 ⌝ }
+        ensures space { λ r. ⌜ behind-room r ≡ length (now (next .entry)) / 3 ⌝ }
     {
-        Queue { this, next, at: 0, upto: 0, count: 0 }
+        Queue {
+            this,
+            next,
+            at: 0,
+            upto: 0,
+            count: 0,
+        }
     }
 
-    /// One number more at the end of the next round; refuses where its line is full.
+    /// Puts a number at the end of the next round; refuses where its line is full.
     pub fn push(&mut self, number: u64) -> Result<(), Full>
         ensures { λ r. ⌜ Cases r
-            (λ _. (behind (now (self .exit)) ≡ behind (now (self .entry)) ++ (number ∷ [])) × (before (now (self .exit)) ≡ before (now (self .entry))))
-            (λ _. (length (now (self .entry) .next .now) < 3 * now (self .entry) .count + 3) × (behind (now (self .exit)) ≡ behind (now (self .entry))) × (before (now (self .exit)) ≡ before (now (self .entry)))) ⌝ }
+            (λ _. Pushed (now (self .entry)) (now (self .exit)) number)
+            (λ _. (behind-room (now (self .entry)) ≤ length (behind (now (self .entry))))
+            × Same (now (self .entry)) (now (self .exit))) ⌝ }
     {
         let count = self.count;
         match write_slot(self.next, count, Place(number as usize).slot(WORKER)) {
@@ -52,28 +64,63 @@ impl<'a> Queue<'a> {
         }
     }
 
-    /// The next number of this round, which is taken; none where the round has ended.
-    pub fn pop(&mut self) -> Option<u64>
-        ensures behind { λ _. ⌜ behind (now (self .exit)) ≡ behind (now (self .entry)) ⌝ }
-        ensures taken { λ r. ⌜ BySome r
-            ((before (now (self .entry)) ≡ []) × (before (now (self .exit)) ≡ []))
-            (λ n. before (now (self .entry)) ≡ n ∷ before (now (self .exit))) ⌝ }
+    /// The number in front of this round; none where the round has ended.
+    pub fn first(&self) -> Option<u64>
+        ensures { λ r. ⌜ r ≡ front (before (now (self .entry))) ⌝ }
     {
-        let at = self.at;
-        if at >= self.upto {
+        if self.at >= self.upto {
             return None;
         }
-        let number = read_slot(self.this, at).place().0 as u64;
-        self.at = at + 1;
+        Some(self.at_front())
+    }
+
+    /// Takes the number in front of this round; none where the round has ended.
+    pub fn pop(&mut self) -> Option<u64>
+        ensures { λ r. ⌜ BySome r
+            (Ended (now (self .entry)) (now (self .exit)))
+            (λ n. Popped (now (self .entry)) (now (self .exit)) n) ⌝ }
+    {
+        if self.at >= self.upto {
+            return None;
+        }
+        let number = self.at_front();
+        self.at += 1;
         Some(number)
     }
 
-    /// The end of a round: what the next round has comes now, and the next has nothing. What was still to come is dropped.
-    pub fn turn(self) -> Queue<'a>
-        ensures before { λ r. ⌜ before r ≡ behind self ⌝ }
-        ensures behind { λ r. ⌜ behind r ≡ [] ⌝ }
+    /// Begins the next round; does nothing while this one has numbers left.
+    pub fn turn(&mut self)
+        ensures ended { λ _. ⌜ (before (now (self .entry)) ≡ [] → Turned (now (self .entry)) (now (self .exit))) ⌝ }
+        ensures going { λ _. ⌜ ((before (now (self .entry)) ≡ [] → ⊥) → Same (now (self .entry)) (now (self .exit))) ⌝ }
     {
-        let Queue { this, next, count, .. } = self;
-        Queue { this: next, next: this, at: 0, upto: count, count: 0 }
+        if self.at < self.upto {
+            return;
+        }
+        swap(&mut self.this, &mut self.next);
+        self.at = 0;
+        self.upto = self.count;
+        self.count = 0;
+    }
+
+    /// How many numbers both lines have, or the largest `usize` where they are more.
+    pub fn len(&self) -> usize
+        ensures { λ r. ⌜ r ≡ min (length (before (now (self .entry))) + length (behind (now (self .entry)))) (2 ^ 64 - 1) ⌝ }
+    {
+        self.upto.saturating_sub(self.at).saturating_add(self.count)
+    }
+
+    /// Whether neither line has a number.
+    pub fn is_empty(&self) -> bool
+        ensures empty { λ r. ⌜ (r ≡ true → (before (now (self .entry)) ≡ []) × (behind (now (self .entry)) ≡ [])) ⌝ }
+        ensures filled { λ r. ⌜ (before (now (self .entry)) ≡ [] → behind (now (self .entry)) ≡ [] → r ≡ true) ⌝ }
+    {
+        self.len() == 0
+    }
+
+    /// The number in the slot in front of this round's line, or what stands there where the round has ended.
+    fn at_front(&self) -> u64
+        ensures { λ r. ⌜ r ≡ placeOf (slotAt (now (self .entry) .this .now) (now (self .entry) .at)) ⌝ }
+    {
+        read_slot(self.this, self.at).place().0 as u64
     }
 }
