@@ -30,6 +30,9 @@ entries-pop q q′ n this next =
 pub entries-end : (q : Queue) → before q ≡ [] → entries q ≡ round ∷ workers (behind q)
 entries-end q none = ap (λ ns. workers ns ++ (round ∷ workers (behind q))) none
 
+pub entries-none : (q : Queue) → before q ≡ [] → behind q ≡ [] → entries q ≡ round ∷ []
+entries-none q this next = entries-end q this ∙ ap (λ ns. round ∷ workers ns) next
+
 pub entries-turn : (q q′ : Queue) → before q ≡ [] → before q′ ≡ behind q → behind q′ ≡ [] → (es : List Entry)
     → entries q ≡ round ∷ es → entries q′ ≡ es ++ (round ∷ [])
 entries-turn q q′ none this next es e =

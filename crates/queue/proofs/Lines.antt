@@ -13,10 +13,10 @@ use Rattle.std.specs.declared.option.Option.the-variants.{Some, None}
 use Rattle.store.specs.Slots.{slotAt, placeOf, Wrote}
 use Rattle.store.specs.declared.slot.Slot.{Slot}
 use Rattle.queue.specs.Lines.{before, behind, before-room, behind-room, front, numbers}
-use Rattle.queue.specs.Lines.{Ended, Popped, Pushed, Rooms, Same, Turned}
+use Rattle.queue.specs.Lines.{Empty, Ended, Popped, Pushed, Rooms, Same, Turned}
 use Rattle.queue.specs.declared.Queue.{Queue}
-use Rattle.queue.proofs.Entries.{entries-end, entries-pop, entries-push, entries-turn}
-use Rattle.queue.proofs.Numbers.{length-numbers, numbers-ap, numbers-end, numbers-first, numbers-none, numbers-push}
+use Rattle.queue.proofs.Entries.{entries-end, entries-none, entries-pop, entries-push, entries-turn}
+use Rattle.queue.proofs.Numbers.{length-numbers, numbers-ap, numbers-first, numbers-none, numbers-push}
 
 -- a line whose words and numbers stay is as it was
 before-same : (q q′ : Queue) → q′ .this .now ≡ q .this .now → q′ .at ≡ q .at → q′ .upto ≡ q .upto
@@ -148,10 +148,12 @@ counted q left all e f =
     f ∙ ap (λ n. min n (2 ^ 64 - 1)) (let a = length-before q in let b = length-behind q in omega arith)
 
 pub is-empty : (q : Queue) (all : ℕ) → all ≡ min (length (before q) + length (behind q)) (2 ^ 64 - 1)
-    → eqb all 0 ≡ true → (before q ≡ []) × (behind q ≡ [])
+    → eqb all 0 ≡ true → Empty q
 is-empty q all e t =
     let z : all ≡ 0 = eqb-true all 0 t in
-    (none-of-length (before q) (omega arith), none-of-length (behind q) (omega arith))
+    let this : before q ≡ [] = none-of-length (before q) (omega arith) in
+    let next : behind q ≡ [] = none-of-length (behind q) (omega arith) in
+    record { this = this; next = next; model = entries-none q this next }
 
 pub empty-is : (q : Queue) (all : ℕ) → all ≡ min (length (before q) + length (behind q)) (2 ^ 64 - 1)
     → before q ≡ [] → behind q ≡ [] → eqb all 0 ≡ true

@@ -58,9 +58,6 @@ numbers-first words i k h =
     let f : suc i ≡ i + 1 = omega arith in
     ap (λ n. numbers words i n) e ∙ ap (λ j. placeOf (slotAt words i) ∷ numbers words j (k - (i + 1))) f
 
--- there are none from i up to k where k is not past i, and only there
+-- there are none from i up to k where k is not past i
 pub numbers-none : (words : List ℕ) (i k : ℕ) → k ≤ i → numbers words i (k - i) ≡ []
 numbers-none words i k h = let e : k - i ≡ 0 = omega arith in ap (λ n. numbers words i n) e
-
-pub numbers-end : (words : List ℕ) (i n : ℕ) → numbers words i n ≡ [] → n ≡ 0
-numbers-end words i n e = sym (length-numbers words i n) ∙ ap length e

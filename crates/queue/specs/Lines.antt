@@ -43,6 +43,12 @@ abbrev pub front : List ℕ → Option ℕ
 front [] = None
 front (n ∷ ns) = Some n
 
+-- neither line has a number, so the end of the round stands alone in the queue
+pub record Empty (q : Queue) : Type 0 where
+  pub this : before q ≡ []
+  pub next : behind q ≡ []
+  pub model : entries q ≡ round ∷ []
+
 -- the lines have the room that they had
 pub record Rooms (q q′ : Queue) : Type 0 where
   pub this : before-room q′ ≡ before-room q

@@ -6,7 +6,7 @@ ghost use mathlib.Core.Path.{_≡_};
 ghost use Prim.Native.Nat.{_+_, _-_, _/_, _≤_, _^_, min};
 ghost use lib.ListN.{length};
 ghost use Rattle.queue.specs.Lines.{before, before-room, behind, behind-room, front};
-ghost use Rattle.queue.specs.Lines.{Ended, Popped, Pushed, Same, Turned};
+ghost use Rattle.queue.specs.Lines.{Empty, Ended, Popped, Pushed, Same, Turned};
 ghost use Rattle.std.specs.Options.{Cases as BySome};
 ghost use Rattle.std.specs.Results.{Cases};
 ghost use Rattle.store.specs.Slots.{placeOf, slotAt};
@@ -16,7 +16,7 @@ use store::Place;
 use store::read_slot;
 use store::write_slot;
 
-/// The kind of the slots that hold a worker's number.
+/// The kind of the slots that hold a worker's number; the number lies in its slot as a cell's number does.
 const WORKER: u32 = 3;
 
 /// Two lines, each in words of its own, a slot a number: this round's has those from `at` up to `upto` still to come, and
@@ -33,10 +33,9 @@ pub struct Queue<'a> {
 impl<'a> Queue<'a> {
     /// A queue with no numbers; a line has room for one in every three words.
     pub fn new(this: &'a mut [u32], next: &'a mut [u32]) -> Queue<'a>
-        ensures before { λ r. ⌜ before r ≡ [] ⌝ }
-        ensures behind { λ r. ⌜ behind r ≡ [] ⌝ }
-        ensures room { λ r. ⌜ before-room r ≡ length (now (this .entry)) / 3 ⌝ }
-        ensures space { λ r. ⌜ behind-room r ≡ length (now (next .entry)) / 3 ⌝ }
+        ensures empty { λ r. ⌜ Empty r ⌝ }
+        ensures rooms { λ r. ⌜ (before-room r ≡ length (now (this .entry)) / 3)
+            × (behind-room r ≡ length (now (next .entry)) / 3) ⌝ }
     {
         Queue {
             this,
@@ -104,14 +103,15 @@ impl<'a> Queue<'a> {
 
     /// How many numbers both lines have, or the largest `usize` where they are more.
     pub fn len(&self) -> usize
-        ensures { λ r. ⌜ r ≡ min (length (before (now (self .entry))) + length (behind (now (self .entry)))) (2 ^ 64 - 1) ⌝ }
+        ensures { λ r. ⌜ r ≡ min
+            (length (before (now (self .entry))) + length (behind (now (self .entry)))) (2 ^ 64 - 1) ⌝ }
     {
         self.upto.saturating_sub(self.at).saturating_add(self.count)
     }
 
     /// Whether neither line has a number.
     pub fn is_empty(&self) -> bool
-        ensures empty { λ r. ⌜ (r ≡ true → (before (now (self .entry)) ≡ []) × (behind (now (self .entry)) ≡ [])) ⌝ }
+        ensures empty { λ r. ⌜ (r ≡ true → Empty (now (self .entry))) ⌝ }
         ensures filled { λ r. ⌜ (before (now (self .entry)) ≡ [] → behind (now (self .entry)) ≡ [] → r ≡ true) ⌝ }
     {
         self.len() == 0

@@ -4,4 +4,4 @@ use Rattle.queue.proofs.Queue.new.Needs as need
 
 pub returns : need.returns
 unfolding before behind before-room behind-room
-returns c = record { before = refl; behind = refl; room = refl; space = refl }
+returns c = record { empty = record { this = refl; next = refl; model = refl }; rooms = (refl, refl) }
