@@ -4,9 +4,16 @@
 use mathlib.Core.Path.{_≡_, refl, sym, ap, _∙_}
 use mathlib.Core.List.{List, [], _∷_, _++_, append-assoc}
 use Prim.Native.Nat.{ℕ}
+use native.Mathlib.Omega.{arith}
 use Rattle.meaning.specs.Scheduler.{Entry, round, worker}
-use Rattle.queue.specs.Lines.{before, behind, entries, workers, Same}
+use Rattle.std.specs.declared.option.Option.the-variants.{Some, None}
+use Rattle.queue.specs.Lines.{before, behind, entries, front, workers, Same}
 use Rattle.queue.specs.declared.Queue.{Queue}
+
+-- nothing stands in front of an empty line alone
+pub none-in-front : (ns : List ℕ) → None ≡ front ns → ns ≡ []
+none-in-front [] e = refl
+none-in-front (n ∷ ns) e = let z : _≡_ {A = ℕ} 0 1 = cc in absurd (omega arith)
 
 pub workers-append : (a b : List ℕ) → workers (a ++ b) ≡ workers a ++ workers b
 workers-append [] b = refl
