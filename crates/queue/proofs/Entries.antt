@@ -4,26 +4,24 @@
 use mathlib.Core.Path.{_≡_, refl, sym, ap, _∙_}
 use mathlib.Core.List.{List, [], _∷_, _++_, append-assoc}
 use Prim.Native.Nat.{ℕ}
-use native.Mathlib.Omega.{arith}
 use Rattle.meaning.specs.Scheduler.{Entry, round, worker}
-use Rattle.std.specs.declared.option.Option.the-variants.{Some, None}
-use Rattle.queue.specs.Lines.{before, behind, entries, front, workers, Same}
+use Rattle.queue.specs.Lines.{before, behind, entries, workers}
 use Rattle.queue.specs.declared.Queue.{Queue}
-
--- nothing stands in front of an empty line alone
-pub none-in-front : (ns : List ℕ) → None ≡ front ns → ns ≡ []
-none-in-front [] e = refl
-none-in-front (n ∷ ns) e = let z : _≡_ {A = ℕ} 0 1 = cc in absurd (omega arith)
 
 pub workers-append : (a b : List ℕ) → workers (a ++ b) ≡ workers a ++ workers b
 workers-append [] b = refl
 workers-append (n ∷ a) b = ap (λ es. worker n ∷ es) (workers-append a b)
 
+pub entries-same : (q q′ : Queue) → before q′ ≡ before q → behind q′ ≡ behind q → entries q′ ≡ entries q
+entries-same q q′ this next =
+    ap (λ ns. workers ns ++ (round ∷ workers (behind q′))) this
+    ∙ ap (λ ns. workers (before q) ++ (round ∷ workers ns)) next
+
 pub entries-push : (q q′ : Queue) (n : ℕ) → before q′ ≡ before q → behind q′ ≡ behind q ++ (n ∷ [])
     → entries q′ ≡ entries q ++ (worker n ∷ [])
 entries-push q q′ n this next =
     let more : workers (behind q′) ≡ workers (behind q) ++ (worker n ∷ []) =
-        ap workers next ∙ workers-append (behind q) (n ∷ []) in
+    ap workers next ∙ workers-append (behind q) (n ∷ []) in
     ap (λ ns. workers ns ++ (round ∷ workers (behind q′))) this
     ∙ (ap (λ es. workers (before q) ++ (round ∷ es)) more
     ∙ sym (append-assoc (workers (before q)) (round ∷ workers (behind q)) (worker n ∷ [])))
@@ -47,8 +45,3 @@ entries-turn q q′ none this next es e =
     let rest : workers (behind q) ≡ es = cc in
     ap (λ ns. workers ns ++ (round ∷ workers (behind q′))) this
     ∙ (ap (λ ns. workers (behind q) ++ (round ∷ workers ns)) next ∙ ap (λ fs. fs ++ (round ∷ [])) rest)
-
-pub entries-same : (q q′ : Queue) → Same q q′ → entries q′ ≡ entries q
-entries-same q q′ s =
-    ap (λ ns. workers ns ++ (round ∷ workers (behind q′))) (s .this)
-    ∙ ap (λ ns. workers (before q) ++ (round ∷ workers ns)) (s .next)

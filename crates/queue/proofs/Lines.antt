@@ -15,7 +15,7 @@ use Rattle.store.specs.declared.slot.Slot.{Slot}
 use Rattle.queue.specs.Lines.{before, behind, before-room, behind-room, front, numbers}
 use Rattle.queue.specs.Lines.{Empty, Ended, Popped, Pushed, Rooms, Same, Turned}
 use Rattle.queue.specs.declared.Queue.{Queue}
-use Rattle.queue.proofs.Entries.{entries-end, entries-none, entries-pop, entries-push, entries-turn}
+use Rattle.queue.proofs.Entries.{entries-end, entries-none, entries-pop, entries-push, entries-same, entries-turn}
 use Rattle.queue.proofs.Numbers.{length-numbers, numbers-ap, numbers-first, numbers-none, numbers-push}
 
 -- a line whose words and numbers stay is as it was
@@ -37,11 +37,14 @@ rooms-same q q′ this next = record { this = ap (λ n. n / 3) this; next = ap (
 
 pub all-same : (q q′ : Queue) → q′ .this .now ≡ q .this .now → q′ .next .now ≡ q .next .now → q′ .at ≡ q .at
     → q′ .upto ≡ q .upto → q′ .count ≡ q .count → Same q q′
-all-same q q′ this next at upto count =
+all-same q q′ words words′ at upto count =
+    let this : before q′ ≡ before q = before-same q q′ words at upto in
+    let next : behind q′ ≡ behind q = behind-same q q′ words′ count in
     record {
-      this = before-same q q′ this at upto;
-      next = behind-same q q′ next count;
-      rooms = rooms-same q q′ (ap length this) (ap length next);
+      this = this;
+      next = next;
+      model = entries-same q q′ this next;
+      rooms = rooms-same q q′ (ap length words) (ap length words′);
     }
 
 -- how long the lines are
@@ -86,8 +89,8 @@ unfolding behind behind-room
 pushed q q′ s n room wrote is long words at upto count =
     let this : before q′ ≡ before q = before-same q q′ words at upto in
     let next : behind q′ ≡ behind q ++ (n ∷ []) =
-        ap (λ k. numbers (q′ .next .now) 0 k) count
-        ∙ (numbers-push (q .next .now) (q′ .next .now) (q .count) s wrote ∙ ap (λ m. behind q ++ (m ∷ [])) is) in
+    ap (λ k. numbers (q′ .next .now) 0 k) count
+    ∙ (numbers-push (q .next .now) (q′ .next .now) (q .count) s wrote ∙ ap (λ m. behind q ++ (m ∷ [])) is) in
     record {
       fits = omega (arith, length-behind q);
       this = this;
@@ -107,12 +110,12 @@ unfolding before
 popped q q′ n h is words words′ at upto count =
     let k : q′ .upto - q′ .at ≡ q .upto - (q .at + 1) = omega arith in
     let rest : numbers (q′ .this .now) (q′ .at) (q′ .upto - q′ .at)
-        ≡ numbers (q .this .now) (q .at + 1) (q .upto - (q .at + 1)) =
-        numbers-ap {words = q .this .now} {words′ = q′ .this .now} words at k in
+    ≡ numbers (q .this .now) (q .at + 1) (q .upto - (q .at + 1)) =
+    numbers-ap {words = q .this .now} {words′ = q′ .this .now} words at k in
     let this : before q ≡ n ∷ before q′ =
-        before-first q h
-        ∙ (ap (λ m. m ∷ numbers (q .this .now) (q .at + 1) (q .upto - (q .at + 1))) (sym is)
-        ∙ ap (λ ns. n ∷ ns) (sym rest)) in
+    before-first q h
+    ∙ (ap (λ m. m ∷ numbers (q .this .now) (q .at + 1) (q .upto - (q .at + 1))) (sym is)
+    ∙ ap (λ ns. n ∷ ns) (sym rest)) in
     let next : behind q′ ≡ behind q = behind-same q q′ words′ count in
     record {
       this = this;

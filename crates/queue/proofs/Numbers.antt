@@ -24,7 +24,7 @@ numbers-same words words′ i zero same = refl
 numbers-same words words′ i (suc n) same =
     let here : placeOf (slotAt words′ i) ≡ placeOf (slotAt words i) = ap placeOf (same i (omega arith)) in
     let rest : numbers words′ (suc i) n ≡ numbers words (suc i) n =
-        numbers-same words words′ (suc i) n (λ j h. same j (omega arith)) in
+    numbers-same words words′ (suc i) n (λ j h. same j (omega arith)) in
     ap (λ m. m ∷ numbers words′ (suc i) n) here ∙ ap (λ ns. placeOf (slotAt words i) ∷ ns) rest
 
 pub numbers-last : (words : List ℕ) (i n : ℕ)
@@ -43,9 +43,9 @@ numbers-push words words′ n s w =
     let e : n + 1 ≡ suc n = omega arith in
     let z : 0 + n ≡ n = omega arith in
     let same : numbers words′ 0 n ≡ numbers words 0 n =
-        numbers-same words words′ 0 n (λ j h. w .other j (λ i. omega arith)) in
+    numbers-same words words′ 0 n (λ j h. w .other j (λ i. omega arith)) in
     let last : placeOf (slotAt words′ (0 + n)) ≡ placeOf s =
-        ap (λ j. placeOf (slotAt words′ j)) z ∙ ap placeOf (w .here) in
+    ap (λ j. placeOf (slotAt words′ j)) z ∙ ap placeOf (w .here) in
     ap (λ k. numbers words′ 0 k) e
     ∙ (numbers-last words′ 0 n
     ∙ (ap (λ ns. ns ++ (placeOf (slotAt words′ (0 + n)) ∷ [])) same ∙ ap (λ m. numbers words 0 n ++ (m ∷ [])) last))

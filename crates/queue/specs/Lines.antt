@@ -58,6 +58,7 @@ pub record Rooms (q q′ : Queue) : Type 0 where
 pub record Same (q q′ : Queue) : Type 0 where
   pub this : before q′ ≡ before q
   pub next : behind q′ ≡ behind q
+  pub model : entries q′ ≡ entries q
   pub rooms : Rooms q q′
 
 -- the number n came to the end of the next round, which had room for it
