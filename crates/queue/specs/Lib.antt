@@ -1,0 +1,2 @@
+-- The scheduler's queue in lent words.
+pub mod Lines

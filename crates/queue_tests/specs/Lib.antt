@@ -1,0 +1,2 @@
+-- What the examples promise.
+pub mod Rotate
