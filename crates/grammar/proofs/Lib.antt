@@ -12,3 +12,5 @@ pub mod SoundExprs
 pub mod SoundPatterns
 pub mod Sound
 pub mod Exact
+pub mod Pairwise
+pub mod Boundness
