@@ -14,3 +14,4 @@ pub mod Sound
 pub mod Exact
 pub mod Pairwise
 pub mod Boundness
+pub mod Scoping
