@@ -15,3 +15,4 @@ pub mod Exact
 pub mod Pairwise
 pub mod Boundness
 pub mod Scoping
+pub mod EarlyStops
