@@ -16,3 +16,4 @@ pub mod Pairwise
 pub mod Boundness
 pub mod Scoping
 pub mod EarlyStops
+pub mod Places
