@@ -4,36 +4,36 @@
 use mathlib.Core.Path.{_≡_, refl, sym, ap, subst, _∙_}
 use mathlib.Core.Bool.{Bool, true, false, _&&_, not, cond, and-assoc}
 use mathlib.Core.List.{List, [], _∷_, _++_}
-use mathlib.Core.Option.{Option, some, none}
+use mathlib.Core.Option.{Option, some}
 use Prim.Native.Nat.{ℕ}
 use native.Mathlib.Omega.{arith}
 use lib.Dec.{T}
 use Rattle.meaning.specs.Basics.{on-some, Name, same, listed}
-use Rattle.meaning.specs.Syntax.{Expr, var, receive, Clauses, Program}
+use Rattle.meaning.specs.Syntax.{var, receive, Clauses, Program}
 use Rattle.meaning.specs.Tokens.{gap, tokens}
 use Rattle.meaning.specs.Grammar.{k-module, k-fn, k-until, open-paren, close-paren, close-bracket, open-brace, comma}
 use Rattle.meaning.specs.Grammar.{semicolon, colon, is-name, is-atom, Reads}
 use Rattle.meaning.specs.Bound.{bound-clauses, all-different, has-main, sound-functions, sound-modules}
 use Rattle.grammar.specs.Classes.{class-of}
-use Rattle.grammar.specs.Stack.{Snoc, none-yet, snoc, list-of, Modules, no-module, in-module, module-of, program-of}
+use Rattle.grammar.specs.Stack.{none-yet, snoc, list-of, Modules, no-module, in-module, module-of, program-of}
 use Rattle.grammar.specs.Stack.{ExprStack, in-statement, before-equals}
 use Rattle.grammar.specs.Stack.{State, want-expr, have-expr, after-name, after-colon, want-operands, after-quote}
 use Rattle.grammar.specs.Stack.{after-bracket, after-spawn, after-spawn-name, after-spawn-colon, after-receive}
 use Rattle.grammar.specs.Stack.{after-clauses, after-catch, want-statement, want-pattern, have-pattern}
 use Rattle.grammar.specs.Stack.{after-pattern-quote, after-pattern-bracket, after-arrow, top-level, after-module}
 use Rattle.grammar.specs.Stack.{after-module-name, after-fn, after-fn-name, want-parameter, after-parameter}
-use Rattle.grammar.specs.Stack.{after-parameters, when}
+use Rattle.grammar.specs.Stack.{after-parameters}
 use Rattle.grammar.specs.Expressions.{after-expr}
 use Rattle.grammar.specs.LookAhead.{binds}
 use Rattle.grammar.specs.Machine.{name-ends, clauses-end, at-top-level, step, run, program-at, parse}
 use Rattle.grammar.specs.Scopes.{newest, scope}
 use Rattle.grammar.specs.Checks.{fine-modules, fine-exprs, fine-state, passes-behind, passes-name, passes}
-use Rattle.grammar.specs.Promise.{No-program, run-before, Tested-by-token, Fine-is-sound, Stops-early, Stops-at-token}
-use Rattle.meaning.proofs.Splits.{T-of, is-true, and-T, no-clash, some-is, none-some, OnSome, on-some-is}
+use Rattle.grammar.specs.Promise.{run-before, Tested-by-token, Fine-is-sound, Stops-early, Stops-at-token}
+use Rattle.meaning.proofs.Splits.{is-true, and-T, no-clash, some-is, none-some, on-some-is}
 use Rattle.grammar.proofs.Pairwise.{different-newest, sound-newest}
 use Rattle.grammar.proofs.Complete.{complete}
 use Rattle.grammar.proofs.Scoping.{Follows, when-follows, cond-follows, after-expr-fine, start-expr-fine}
-use Rattle.grammar.proofs.Scoping.{start-pattern-fine, after-pattern-fine, with-limit}
+use Rattle.grammar.proofs.Scoping.{start-pattern-fine, after-pattern-fine}
 
 -- a test and a step that look at the same thing
 pub cond-tested :

@@ -1,5 +1,5 @@
--- What classes and levels say; then complete (LookAhead to Complete), sound (Elements to Sound),
--- and both for whole texts.
+-- What classes and levels say; then complete (LookAhead to Complete), sound (Elements to Sound), and both for whole
+-- texts; then names and functions checked while a text is read (Pairwise to Places).
 pub mod Classes
 pub mod Levels
 pub mod LookAhead

@@ -2,17 +2,18 @@
 -- gathered while its parts are put together.
 use mathlib.Core.Path.{_≡_, refl, sym, ap, _∙_}
 use mathlib.Core.Bool.{_&&_, not, and-assoc}
-use mathlib.Core.List.{List, [], _∷_, _++_, reverse, reverse-append, reverse-cons, append-assoc, append-nil}
+use mathlib.Core.List.{List, [], _∷_, _++_, reverse, reverse-cons, append-assoc, append-nil}
 use mathlib.Core.Option.{Option}
 use lib.ListN.{length}
 use Rattle.meaning.specs.Basics.{Name, listed}
 use Rattle.meaning.specs.Syntax.{Pattern, p-tuple, p-cons, no-p, and-p, Expr, var, Body, Function}
 use Rattle.meaning.specs.Bound.{bound-by, bound-body, all-different, no-function}
-use Rattle.grammar.specs.Stack.{Snoc, none-yet, snoc, patterns-of, list-of, Modules, in-module, ExprStack, in-function}
+use Rattle.grammar.specs.Stack.{Snoc, none-yet, snoc, Statement, statement, Arm, patterns-of, list-of, Modules}
+use Rattle.grammar.specs.Stack.{in-module, Owner, ExprStack, in-binding, BodyStack, in-arm, in-function}
 use Rattle.grammar.specs.Stack.{PatternStack, in-cons, in-group, in-tuple, before-equals, before-arrow, State}
 use Rattle.grammar.specs.Stack.{have-expr, top-level, want-parameter, after-parameter, after-parameters}
 use Rattle.grammar.specs.Patterns.{reduce-pattern}
-use Rattle.grammar.specs.Scopes.{newest, scope, body-scope, pending}
+use Rattle.grammar.specs.Scopes.{newest, after-statements, scope, body-scope, pending}
 use Rattle.grammar.specs.Checks.{fine-exprs, fine-body-stack, fine-modules, fine-state}
 use Rattle.grammar.proofs.Pairwise.{different-newest}
 use Rattle.grammar.proofs.Boundness.{patterns-bind}
@@ -62,6 +63,23 @@ pub tuple-binds :
     (xs : Snoc Pattern) (p : Pattern) (k : PatternStack) →
     bound-by (p-tuple (patterns-of xs (and-p p no-p))) (pending k) ≡ bound-by p (pending (in-tuple xs k))
 tuple-binds xs p k = patterns-bind xs (pending k) (and-p p no-p)
+
+-- behind a whole pattern, its names are in scope: for the statements that follow, and in an arm
+pub statement-scope :
+    (xs : Snoc Statement) (p : Pattern) (e : Expr) (k : BodyStack) →
+    after-statements (snoc xs (statement p e)) (body-scope k) ≡ bound-by p (pending (before-equals xs k))
+statement-scope xs p e k = refl
+
+pub arm-scope :
+    (p : Pattern) (h : Owner) (xs : Snoc Arm) (k : ExprStack) →
+    body-scope (in-arm p h xs k) ≡ bound-by p (pending (before-arrow h xs k))
+arm-scope p h xs k = refl
+
+-- but a statement's expression stands before them
+pub binding-scope :
+    (p : Pattern) (xs : Snoc Statement) (k : BodyStack) →
+    scope (in-binding p xs k) ≡ pending (before-equals xs k)
+binding-scope p xs k = refl
 
 -- what depends only on the names behind a pattern is the same before and after :: is put together
 pub reduce-pattern-binds :

@@ -2,47 +2,34 @@
 -- the whole that the parts are put together to. So a state that is not fine never becomes fine again, and where a
 -- text ends, fine is what is asked of its program.
 use mathlib.Core.Path.{_≡_, refl, sym, ap, subst, _∙_}
-use mathlib.Core.Bool.{Bool, true, false, _&&_, not, cond, and-assoc}
-use mathlib.Core.List.{List, [], _∷_}
+use mathlib.Core.Bool.{Bool, true, false, _&&_, cond, and-assoc}
 use mathlib.Core.Option.{Option, some, none}
 use Prim.Native.Nat.{ℕ}
 use native.Mathlib.Omega.{arith}
 use lib.ListN.{length}
 use lib.Dec.{leb, eqb}
-use Rattle.meaning.specs.Basics.{Name, same, listed}
-use Rattle.meaning.specs.Syntax.{Pattern, no-p, and-p, Operation, Expr, var, receive, Exprs, no-e, and-e, Body, last}
+use Rattle.meaning.specs.Syntax.{Pattern, Operation, Expr, Exprs, no-e, and-e, Body, last}
 use Rattle.meaning.specs.Syntax.{Clauses, no-c}
-use Rattle.meaning.specs.Grammar.{k-module, k-fn, k-until, open-paren, close-paren, close-bracket, open-brace, comma}
-use Rattle.meaning.specs.Grammar.{semicolon, colon, is-name, is-atom}
 use Rattle.meaning.specs.Bound.{bound-expr, bound-exprs, bound-body, bound-clauses, all-different, no-function}
 use Rattle.meaning.specs.Bound.{sound-functions}
 use Rattle.grammar.specs.Classes.{Bracket, paren, brace, same-bracket, Class, c-number, c-name, c-operator, c-open}
 use Rattle.grammar.specs.Classes.{c-close, c-builtin, c-start, c-separate, c-other, s-quote, s-bracket, s-underscore}
 use Rattle.grammar.specs.Classes.{s-case, s-receive, s-catch, s-spawn, s-comma, s-semicolon, s-equals, s-arrow}
-use Rattle.grammar.specs.Classes.{class-of}
-use Rattle.grammar.specs.Stack.{Snoc, none-yet, snoc, body-of, clauses-of, exprs-of, list-of, Modules, no-module}
+use Rattle.grammar.specs.Stack.{none-yet, snoc, body-of, clauses-of, exprs-of, no-module}
 use Rattle.grammar.specs.Stack.{in-module, Owner, of-case, of-receive, ExprStack, operand, in-parens, in-list, in-case}
 use Rattle.grammar.specs.Stack.{in-until, in-statement, in-binding, BodyStack, in-arm, in-timeout, in-catch}
 use Rattle.grammar.specs.Stack.{in-function, PatternStack, in-cons, in-group, in-tuple, before-equals, before-arrow}
-use Rattle.grammar.specs.Stack.{State, want-expr, have-expr, after-name, after-colon, want-operands, after-quote}
-use Rattle.grammar.specs.Stack.{after-bracket, after-spawn, after-spawn-name, after-spawn-colon, after-receive}
-use Rattle.grammar.specs.Stack.{after-clauses, after-catch, want-statement, want-pattern, have-pattern}
-use Rattle.grammar.specs.Stack.{after-pattern-quote, after-pattern-bracket, after-arrow, top-level, after-module}
-use Rattle.grammar.specs.Stack.{after-module-name, after-fn, after-fn-name, want-parameter, after-parameter}
-use Rattle.grammar.specs.Stack.{after-parameters, when}
-use Rattle.grammar.specs.Expressions.{Reduced, reduced, reduce, binary, comparing, shift, arity-fits, close-list}
+use Rattle.grammar.specs.Stack.{State, want-expr}
+use Rattle.grammar.specs.Stack.{when}
+use Rattle.grammar.specs.Expressions.{reduced, reduce, binary, comparing, shift, arity-fits, close-list}
 use Rattle.grammar.specs.Expressions.{close-body, close-expr, next-expr, next-statement, open-block, close-empty}
 use Rattle.grammar.specs.Expressions.{start-expr, after-expr}
 use Rattle.grammar.specs.Patterns.{close-clauses, reduce-pattern, close-pattern, next-pattern, bind-pattern}
 use Rattle.grammar.specs.Patterns.{begin-arm, close-without, is-pair, start-pattern, after-pattern}
-use Rattle.grammar.specs.LookAhead.{binds}
-use Rattle.grammar.specs.Machine.{name-ends, clauses-end, at-top-level, step}
 use Rattle.grammar.specs.Scopes.{newest, after-statements, scope, body-scope}
 use Rattle.grammar.specs.Checks.{fine-operands, fine-arms, fine-owner, fine-statements, fine-modules, fine-exprs}
 use Rattle.grammar.specs.Checks.{fine-body-stack, fine-patterns, fine-state, new-at-end, new-if-closed, passes-behind}
-use Rattle.grammar.specs.Checks.{passes-name, passes}
 use Rattle.meaning.proofs.Splits.{OnSome, cond-all}
-use Rattle.grammar.proofs.Pairwise.{different-newest}
 use Rattle.grammar.proofs.Boundness.{reverse-alike, bound-body-alike, operands-bound, arms-bound, statements-bound}
 
 -- if the machine goes on, then its state is fine exactly if b
