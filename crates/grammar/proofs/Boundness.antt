@@ -1,7 +1,7 @@
 -- Whether names are bound depends only on which names are listed, so not on the order of parameters; and what is
 -- bound part by part, as the machine reads it, is bound as a whole.
 use mathlib.Core.Path.{_≡_, refl, ap, _∙_}
-use mathlib.Core.Bool.{Bool, true, false, _&&_, _||_}
+use mathlib.Core.Bool.{Bool, true, false, _&&_, _||_, or-false}
 use mathlib.Core.List.{List, [], _∷_, reverse, reverseAux}
 use native.Mathlib.Omega.{arith}
 use Rattle.meaning.specs.Basics.{Name, same, listed}
@@ -79,13 +79,9 @@ listed-reverse-onto x [] ys = refl
 listed-reverse-onto x (y ∷ xs) ys =
     listed-reverse-onto x xs (y ∷ ys) ∙ or-turned (listed x xs) (same x y) (listed x ys)
 
-pub or-no : (a : Bool) → (a || false) ≡ a
-or-no true = refl
-or-no false = refl
-
 -- the order of parameters does not count
 pub reverse-alike : (xs : List Name) → Alike (reverse xs) xs
-reverse-alike xs = λ x. listed-reverse-onto x xs [] ∙ or-no (listed x xs)
+reverse-alike xs = λ x. listed-reverse-onto x xs [] ∙ or-false (listed x xs)
 
 -- the newest part is checked first
 pub newest-part-first : (x e s : Bool) → (x && (e && s)) ≡ ((e && x) && s)

@@ -2,11 +2,10 @@
 -- not fine stays so, and at the end of a text fine is sound. A text that comes to a state that is not fine is
 -- therefore no program.
 use mathlib.Core.Path.{_≡_, refl, sym, ap, subst, _∙_}
-use mathlib.Core.Bool.{Bool, true, false, _&&_, not, cond, and-assoc}
+use mathlib.Core.Bool.{Bool, true, false, _&&_, not, cond, and-true, and-assoc}
 use mathlib.Core.List.{List, [], _∷_, _++_}
 use mathlib.Core.Option.{Option, some}
 use Prim.Native.Nat.{ℕ}
-use native.Mathlib.Omega.{arith}
 use lib.Dec.{T}
 use Rattle.meaning.specs.Basics.{on-some, Name, same, listed}
 use Rattle.meaning.specs.Syntax.{var, receive, Clauses, Program}
@@ -31,6 +30,7 @@ use Rattle.grammar.specs.Checks.{fine-modules, fine-exprs, fine-state, passes-
 use Rattle.grammar.specs.Promise.{run-before, Tested-by-token, Fine-is-sound, Stops-early, Stops-at-token}
 use Rattle.meaning.proofs.Splits.{is-true, and-T, no-clash, some-is, none-some, on-some-is}
 use Rattle.grammar.proofs.Pairwise.{different-newest, sound-newest}
+use Rattle.grammar.proofs.Boundness.{newest-part-first}
 use Rattle.grammar.proofs.Complete.{complete}
 use Rattle.grammar.proofs.Scoping.{Follows, when-follows, cond-follows, after-expr-fine, start-expr-fine}
 use Rattle.grammar.proofs.Scoping.{start-pattern-fine, after-pattern-fine}
@@ -117,16 +117,13 @@ run-backwards s t (w ∷ ws) e h =
     let next = on-some-is (step s w ws) (λ x. run x ws) t e in
     fine-backwards s (next .0) w ws (next .1) (run-backwards (next .0) t ws (next .2) h)
 
-pub modules-first : (f g m : Bool) → ((f && g) && m) ≡ (g && (f && m))
-modules-first f g m = grind arith
-
 -- the modules read, before those of g
 pub program-fine : (m : Modules) (g : Program) → sound-modules (program-of m g) ≡ (sound-modules g && fine-modules m)
-program-fine no-module g = grind arith
+program-fine no-module g = sym (and-true (sound-modules g))
 program-fine (in-module m x fs) g =
     program-fine m (module-of x (list-of fs []) ∷ g)
     ∙ ap (λ d. (d && sound-modules g) && fine-modules m) (sound-newest fs)
-    ∙ modules-first (sound-functions (newest fs)) (sound-modules g) (fine-modules m)
+    ∙ sym (newest-part-first (sound-modules g) (sound-functions (newest fs)) (fine-modules m))
 
 pub fine-is-sound : Fine-is-sound
 fine-is-sound (top-level m) g e = sym (program-fine m []) ∙ ap sound-modules (some-is e)

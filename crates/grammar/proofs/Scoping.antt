@@ -8,8 +8,7 @@ use Prim.Native.Nat.{ℕ}
 use native.Mathlib.Omega.{arith}
 use lib.ListN.{length}
 use lib.Dec.{leb, eqb}
-use Rattle.meaning.specs.Syntax.{Pattern, Operation, Expr, Exprs, no-e, and-e, Body, last}
-use Rattle.meaning.specs.Syntax.{Clauses, no-c}
+use Rattle.meaning.specs.Syntax.{Pattern, Operation, Expr, Exprs, no-e, and-e, Body, last, Clauses, no-c}
 use Rattle.meaning.specs.Bound.{bound-expr, bound-exprs, bound-body, bound-clauses, all-different, no-function}
 use Rattle.meaning.specs.Bound.{sound-functions}
 use Rattle.grammar.specs.Classes.{Bracket, paren, brace, same-bracket, Class, c-number, c-name, c-operator, c-open}
@@ -19,8 +18,7 @@ use Rattle.grammar.specs.Stack.{none-yet, snoc, body-of, clauses-of, exprs-of,
 use Rattle.grammar.specs.Stack.{in-module, Owner, of-case, of-receive, ExprStack, operand, in-parens, in-list, in-case}
 use Rattle.grammar.specs.Stack.{in-until, in-statement, in-binding, BodyStack, in-arm, in-timeout, in-catch}
 use Rattle.grammar.specs.Stack.{in-function, PatternStack, in-cons, in-group, in-tuple, before-equals, before-arrow}
-use Rattle.grammar.specs.Stack.{State, want-expr}
-use Rattle.grammar.specs.Stack.{when}
+use Rattle.grammar.specs.Stack.{State, want-expr, when}
 use Rattle.grammar.specs.Expressions.{reduced, reduce, binary, comparing, shift, arity-fits, close-list}
 use Rattle.grammar.specs.Expressions.{close-body, close-expr, next-expr, next-statement, open-block, close-empty}
 use Rattle.grammar.specs.Expressions.{start-expr, after-expr}
@@ -30,6 +28,7 @@ use Rattle.grammar.specs.Scopes.{newest, after-statements, scope, body-scope}
 use Rattle.grammar.specs.Checks.{fine-operands, fine-arms, fine-owner, fine-statements, fine-modules, fine-exprs}
 use Rattle.grammar.specs.Checks.{fine-body-stack, fine-patterns, fine-state, new-at-end, new-if-closed, passes-behind}
 use Rattle.meaning.proofs.Splits.{OnSome, cond-all}
+use Rattle.grammar.proofs.Pairwise.{and-left-comm}
 use Rattle.grammar.proofs.Boundness.{reverse-alike, bound-body-alike, operands-bound, arms-bound, statements-bound}
 
 -- if the machine goes on, then its state is fine exactly if b
@@ -56,9 +55,6 @@ with-timeout c e b f = grind arith
 
 pub with-function : (n d b m g : Bool) → ((n && (d && (b && m))) && g) ≡ (n && (b && (d && (m && g))))
 with-function n d b m g = grind arith
-
-pub with-limit : (c e f : Bool) → (c && (e && f)) ≡ (e && (c && f))
-with-limit c e f = grind arith
 
 pub with-arms : (e x f : Bool) → ((e && (x && true)) && f) ≡ (e && (x && f))
 with-arms e x f = grind arith
@@ -170,7 +166,7 @@ open-block-fine e (in-parens k) = tt
 open-block-fine e (in-list c o xs k) = tt
 open-block-fine e (in-case k) = refl
 open-block-fine e (in-until cs k) =
-    with-limit (bound-clauses (scope k) cs) (bound-expr (scope k) e) (fine-exprs k)
+    and-left-comm (bound-clauses (scope k) cs) (bound-expr (scope k) e) (fine-exprs k)
 open-block-fine e (in-statement xs k) = tt
 open-block-fine e (in-binding p xs k) = tt
 
