@@ -1,0 +1,3 @@
+-- What a worker's state in cells stands for, and what a turn of it leads to.
+pub mod State
+pub mod Outcomes
