@@ -1,0 +1,5 @@
+pub mod Instructions
+pub mod Operations
+pub mod Firsts
+pub mod Functions
+pub mod Variables

@@ -5,3 +5,6 @@ pub mod Fine
 pub mod Program
 pub mod Environment
 pub mod Code
+pub mod Instruction
+pub mod Operation
+pub mod Function

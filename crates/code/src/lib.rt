@@ -1,1 +1,26 @@
 //! How programs stand in cells: shared by the reader, which makes them, and the machine, which runs them.
+
+mod environment;
+mod function;
+mod instruction;
+mod kinds;
+mod operation;
+mod program;
+
+pub use environment::look_up;
+pub use function::find_function;
+pub use instruction::Instruction;
+pub use instruction::Start;
+pub use instruction::read_body;
+pub use instruction::read_instruction;
+pub use kinds::CASE;
+pub use kinds::OPERAND;
+pub use kinds::STATEMENT;
+pub use kinds::UNTIL;
+pub use kinds::VALUES;
+pub use operation::Builtin;
+pub use operation::Far;
+pub use operation::Operation;
+pub use operation::Operator;
+pub use operation::read_operation;
+pub use program::Program;
