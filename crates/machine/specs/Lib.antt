@@ -1,3 +1,5 @@
 -- What a worker's state in cells stands for, and what a turn of it leads to.
 pub mod State
+pub mod Frames
 pub mod Outcomes
+pub mod Steps

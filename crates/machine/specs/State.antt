@@ -98,7 +98,7 @@ treeF x kind p n us t = node kind (node part-kind (leaf place-kind p n) (chain (
 pub data FramesAre (x : World) : Tree → List Frame → Type 0 where
   no-frames : FramesAre x nothing []
   operands-at : {p n : ℕ} {t : Tree} (sc : List Name) (us vs : List Value) {o : Operation} {e : Expr} {es : Exprs} {w : Scope} {k : List Frame} →
-    CodeEs (x .names) sc (x .code) (placed operand-kind p) o (length vs + suc (count es)) (and-e e es) → Framed x sc n us w → Fine-values (x .names) vs →
+    CodeEs (x .names) sc (x .code) (placed operand-kind p) o (length vs + suc (count es)) (and-e e es) → Framed x sc n us w → Fine-values (x .names) (reverse vs) →
     FramesAre x t k →
     FramesAre x (node operands-frame-kind (node part-kind (leaf place-kind p n) (node part-kind (chain (x .names) values-kind nothing us) (chain (x .names) values-kind nothing (reverse vs)))) t) (operands-frame o vs es w ∷ k)
   bind-at : {p n : ℕ} {t : Tree} (sc : List Name) (us : List Value) {a : Pattern} {e : Expr} {b : Body} {w : Scope} {k : List Frame} →

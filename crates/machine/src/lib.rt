@@ -1,9 +1,18 @@
 //! One turn of one worker: what its state is in cells, and what it leads to.
 
+mod atoms;
+mod evaluation;
+mod frames;
 mod state;
+mod unwinding;
 
-pub use state::Builtin;
+pub use evaluation::begin_body;
+pub use frames::Frame;
+pub use frames::make_frame;
+pub use frames::read_frame;
 pub use state::Control;
-pub use state::Far;
 pub use state::Outcome;
+pub use state::Refusal;
 pub use state::Site;
+pub use unwinding::tag;
+pub use unwinding::unwind;

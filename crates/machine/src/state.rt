@@ -1,7 +1,8 @@
 //! A worker's state as a value, and what a turn of it leads to.
 
+use code::Builtin;
+use code::Far;
 use store::Slot;
-use values::Atom;
 
 /// Where code is at work: what its names are bound to, and the section of the program.
 #[derive(Clone, Copy)]
@@ -25,20 +26,6 @@ pub enum Control {
     Wait(Slot, Site),
 }
 
-/// The built-in functions.
-#[derive(Clone, Copy)]
-pub enum Builtin {
-    Send,
-    Itself,
-    Link,
-    Exit,
-    Trap,
-    Show,
-    Register,
-    Whereis,
-    Swap,
-}
-
 /// What a turn leads to. What changes more than this worker is asked for, and done by the scheduler; the slot of frames in a
 /// request is what waits for its value.
 #[derive(Clone, Copy)]
@@ -58,10 +45,9 @@ pub enum Outcome {
     WaitsFor(Slot, Site, u64, Slot),
 }
 
-/// A function of another module, by the numbers of its name and its module, and how many arguments it gets.
+/// Why a turn was not taken: the heap has no cell left, or the scratch words are too few to compare a value.
 #[derive(Clone, Copy)]
-pub struct Far {
-    pub owner: Atom,
-    pub function: Atom,
-    pub count: u32,
+pub enum Refusal {
+    Full,
+    TooLarge,
 }
