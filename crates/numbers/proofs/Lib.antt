@@ -1,0 +1,4 @@
+mod Fitting
+mod Rounding
+mod Dividing
+mod Multiplying
