@@ -3,3 +3,4 @@ pub mod Operations
 pub mod Firsts
 pub mod Functions
 pub mod Variables
+pub mod Decoding

@@ -8,3 +8,4 @@ pub mod Code
 pub mod Instruction
 pub mod Operation
 pub mod Function
+pub mod Clauses

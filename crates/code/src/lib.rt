@@ -1,5 +1,6 @@
 //! How programs stand in cells: shared by the reader, which makes them, and the machine, which runs them.
 
+mod clauses;
 mod environment;
 mod function;
 mod instruction;
@@ -7,6 +8,10 @@ mod kinds;
 mod operation;
 mod program;
 
+pub use clauses::CLAUSES;
+pub use clauses::Clause;
+pub use clauses::Clauses;
+pub use clauses::Pattern;
 pub use environment::look_up;
 pub use function::find_function;
 pub use instruction::Instruction;

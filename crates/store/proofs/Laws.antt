@@ -6,12 +6,13 @@ use mathlib.Core.Bool.{true}
 use Prim.Native.Nat.{ℕ, _+_, _*_, _≤_, _<_}
 use native.Mathlib.Omega.{arith}
 use borrow.Author.Tests.{eq-eqb}
+use lib.ListN.{length}
 use Rattle.store.specs.Heap.{Store, leftOf, rightOf, Denotes, Den, Kept}
 use Rattle.store.specs.Slots.{slotAt, placeOf}
 use Rattle.store.specs.Tree.{Tree, leaf, node, spine, sameTree}
 use Rattle.store.specs.declared.slot.Slot.{Slot}
 use Rattle.store.proofs.Denoting.{denotes-kept, denotes-one}
-use Rattle.store.proofs.Spines.{denotes-spine}
+use Rattle.store.proofs.Spines.{denotes-spine, denotes-within}
 use Rattle.store.proofs.Words.{slot-parts}
 
 -- A slot of a kind below 16 denotes the leaf of its own words, in every store.
@@ -43,6 +44,13 @@ node-left d = record { is = d .is .3 }
 pub node-right : {m : Store} {s : Slot} {k : ℕ} {a b : Tree} → Den m s (node k a b) → Den m (rightOf (m .words) s) b
 unfolding rightOf
 node-right d = record { is = d .is .4 }
+
+-- What was read to the left or to the right of a node denotes that tree.
+pub left-at : {m : Store} {s x : Slot} {k : ℕ} {a b : Tree} → x ≡ leftOf (m .words) s → Den m s (node k a b) → Den m x a
+left-at {m} {a} e d = subst (λ (q : Slot). Den m q a) (sym e) (node-left d)
+
+pub right-at : {m : Store} {s x : Slot} {k : ℕ} {a b : Tree} → x ≡ rightOf (m .words) s → Den m s (node k a b) → Den m x b
+right-at {m} {b} e d = subst (λ (q : Slot). Den m q b) (sym e) (node-right d)
 
 -- What a slot of a kind below 16 denotes is the leaf of its words.
 pub is-leaf : {m : Store} {s : Slot} (t : Tree) → s .kind < 16 → Den m s t → t ≡ leaf (s .kind) (s .low) (s .high)
@@ -84,6 +92,10 @@ kept-back g = record { more = omega arith; same = g .same }
 -- A right edge is at most as long as the cells in use, so a walk along it ends with no fuel.
 pub spine-fits : {m : Store} {s : Slot} {t : Tree} → Den m s t → spine t ≤ m .used
 spine-fits {m} {s} {t} d = denotes-spine (m .words) (m .used) s t (d .is)
+
+-- Words past the end read as leaves, so a right edge is at most one longer than the words, whatever is in use.
+pub spine-within : {m : Store} {s : Slot} {t : Tree} → Den m s t → spine t ≤ length (m .words) + 1
+spine-within {m} {s} {t} d = denotes-within (m .words) (m .used) s t (d .is)
 
 -- A tree is the same as itself.
 pub sameTree-refl : (t : Tree) → sameTree t t ≡ true

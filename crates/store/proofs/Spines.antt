@@ -8,12 +8,14 @@ use mathlib.Core.Logic.{_⊎_, inl, inr}
 use Prim.Native.Nat.{ℕ, zero, suc, _+_, _*_, _≤_, _<_}
 use native.Mathlib.Omega.{arith}
 use lib.Dec.{eqb}
-use Rattle.std.proofs.shelf.Ways.{eqb-tells}
+use lib.ListN.{length}
+use Rattle.std.proofs.shelf.Ways.{eqb-tells, leb-tells}
 use Rattle.store.specs.Heap.{Denotes}
 use Rattle.store.specs.Slots.{slotAt, placeOf}
 use Rattle.store.specs.Tree.{Tree, leaf, node, spine}
 use Rattle.store.specs.declared.slot.Slot.{Slot}
 use Rattle.store.proofs.Denoting.{denotes-one}
+use Rattle.store.proofs.Words.{slot-past}
 
 -- x, but v in place of m
 swapped : ℕ → ℕ → ℕ → ℕ
@@ -72,13 +74,36 @@ on-edge words used s (node k a b) i d lt =
           (on-edge words used (slotAt words (2 * placeOf s + 1)) b i (d .4) (omega (arith, p .1)))
     ]
 
-pub denotes-spine : (words : List ℕ) (used : ℕ) (s : Slot) (t : Tree) → Denotes words used s t → spine t ≤ used
-denotes-spine words used s t d =
-    pigeonhole used (spine t) (edgeCell words s t)
-    (λ i h. on-edge words used s t i d h .within)
-    (λ i j h k q.
+-- cells on the edge that have the same nodes below them are one
+edge-one : (words : List ℕ) (used : ℕ) (s : Slot) (t : Tree) → Denotes words used s t → (i j : ℕ) → i < spine t → j < spine t
+    → edgeCell words s t i ≡ edgeCell words s t j → i ≡ j
+edge-one words used s t d i j h k q =
     let x = on-edge words used s t i d h in
     let y = on-edge words used s t j d k in
     let trees : x .tree ≡ y .tree = denotes-one words used (slotAt words (2 * edgeCell words s t i + 1)) (x .tree) (y .tree) (x .right)
     (subst (λ c. Denotes words used (slotAt words (2 * c + 1)) (y .tree)) (sym q) (y .right)) in
-    sym (x .below) ∙ (ap spine trees ∙ y .below))
+    sym (x .below) ∙ (ap spine trees ∙ y .below)
+
+pub denotes-spine : (words : List ℕ) (used : ℕ) (s : Slot) (t : Tree) → Denotes words used s t → spine t ≤ used
+denotes-spine words used s t d =
+    pigeonhole used (spine t) (edgeCell words s t) (λ i h. on-edge words used s t i d h .within) (edge-one words used s t d)
+
+-- a slot past the end of the words is a leaf
+past-leaf : (words : List ℕ) (used j : ℕ) (t : Tree) → length words ≤ 3 * j → Denotes words used (slotAt words j) t → spine t ≡ 0
+past-leaf words used j (leaf k l h) p d = refl
+past-leaf words used j (node k a b) p d =
+    absurd (omega (arith, d .0, ap (λ (q : Slot). q .kind) (slot-past words j p)))
+
+-- so all cells on an edge but the last lie among the words
+pub denotes-within : (words : List ℕ) (used : ℕ) (s : Slot) (t : Tree) → Denotes words used s t → spine t ≤ length words + 1
+denotes-within words used s (leaf k l h) d = omega arith
+denotes-within words used s (node k a b) d =
+    let le : spine b ≤ length words = pigeonhole (length words) (spine b) (λ i. edgeCell words s (node k a b) (suc i))
+    (λ i h.
+    let x = on-edge words used s (node k a b) (suc i) d (omega arith) in
+    elim (leb-tells (length words) (edgeCell words s (node k a b) (suc i))) [
+      | inl p ↦ absurd (omega (arith, x .below, past-leaf words used (2 * edgeCell words s (node k a b) (suc i) + 1) (x .tree) (omega (arith, p .1)) (x .right)))
+      | inr p ↦ p .1
+    ])
+    (λ i j h l q. let w : suc i ≡ suc j = edge-one words used s (node k a b) d (suc i) (suc j) (omega arith) (omega arith) q in omega arith) in
+    omega arith
