@@ -3,3 +3,4 @@ pub mod State
 pub mod Frames
 pub mod Outcomes
 pub mod Steps
+pub mod Operators

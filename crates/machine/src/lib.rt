@@ -3,6 +3,7 @@
 mod atoms;
 mod evaluation;
 mod frames;
+mod operators;
 mod state;
 mod unwinding;
 
@@ -10,6 +11,8 @@ pub use evaluation::begin_body;
 pub use frames::Frame;
 pub use frames::make_frame;
 pub use frames::read_frame;
+pub use operators::as_number;
+pub use operators::operate;
 pub use state::Control;
 pub use state::Outcome;
 pub use state::Refusal;
