@@ -4,3 +4,5 @@ pub mod Frames
 pub mod Outcomes
 pub mod Steps
 pub mod Operators
+pub mod Performing
+pub mod Resuming

@@ -4,7 +4,7 @@ use mathlib.Core.Bool.{Bool}
 use mathlib.Core.List.{List, [], _∷_}
 use mathlib.Core.Logic.{_⊎_}
 use mathlib.Core.Option.{none}
-use Prim.Native.Nat.{ℕ, _*_, _<_}
+use Prim.Native.Nat.{ℕ, _+_, _*_, _<_}
 use lib.ListN.{length}
 use lib.IntN.{ℤ}
 use Rattle.std.specs.declared.option.Option.{Option}
@@ -12,7 +12,7 @@ use Rattle.std.specs.declared.option.Option.the-variants.{Some, None}
 use Rattle.std.specs.declared.result.Result.{Result}
 use Rattle.std.specs.declared.result.Result.the-variants.{Ok, Err}
 use Rattle.meaning.specs.Basics.{Name}
-use Rattle.meaning.specs.Values.{Value, v-int, as-int, sameV}
+use Rattle.meaning.specs.Values.{Value, v-int, v-cons, as-int, sameV}
 use Rattle.meaning.specs.System.{Control as Meant, Frame, System}
 use Rattle.meaning.specs.Turns.{Outcome as Means, goes-on, gives, truth, number, divided, operate-on}
 use Rattle.numbers.specs.Exact.{Exact}
@@ -93,3 +93,8 @@ pub record Compared (m : Store) (scratch : List ℕ) (o : Operator) (a b : Slot)
 
 pub record OperateSim (m : Store) (scratch : List ℕ) (o : Operator) (st : Slot) (r : Result Control Refusal) : Type 0 where
   pub to : (x : World) (u v : Value) → Chain (x .names) m st (v ∷ u ∷ []) → Operated x m scratch u r (λ k s. operate-on k s (operator-of o) u v)
+
+-- r is the pair of the two operands, of one cell
+pub record Paired (m m′ : Store) (st r : Slot) : Type 0 where
+  pub holds : {ns : List Name} {u v : Value} → Chain ns m st (v ∷ u ∷ []) → Holds ns m′ r (v-cons u v)
+  pub count : m′ .used ≡ m .used + 1

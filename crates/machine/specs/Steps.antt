@@ -7,17 +7,19 @@ use lib.ListN.{length}
 use Rattle.std.specs.declared.result.Result.{Result}
 use Rattle.std.specs.declared.result.Result.the-variants.{Ok, Err}
 use Rattle.meaning.specs.Basics.{Name}
-use Rattle.meaning.specs.Syntax.{Body}
+use Rattle.meaning.specs.Grammar.{count}
+use Rattle.meaning.specs.Syntax.{Operation, Expr, Exprs, Body}
 use Rattle.meaning.specs.Values.{Value, v-atom}
 use Rattle.meaning.specs.System.{Scope, Frame, Worker, System}
-use Rattle.meaning.specs.Turns.{Outcome as Means, pair, begin-body, unwind}
+use Rattle.meaning.specs.Turns.{Outcome as Means, pair, operands, evaluate, begin-body, unwind}
 use Rattle.store.specs.Heap.{Store}
 use Rattle.store.specs.Tree.{cells}
 use Rattle.store.specs.declared.slot.Slot.{Slot}
 use Rattle.values.specs.Encoding.{treeV, Holds}
-use Rattle.code.specs.Code.{CodeB}
+use Rattle.code.specs.Code.{CodeE, CodeEs, CodeB}
+use Rattle.code.specs.Environment.{Chain}
 use Rattle.machine.specs.State.{World, SiteIs, FramesAt}
-use Rattle.machine.specs.Outcomes.{Reached}
+use Rattle.machine.specs.Outcomes.{Reached, Runs}
 use Rattle.machine.specs.declared.state.Site.{Site}
 use Rattle.machine.specs.declared.state.Outcome.{Outcome}
 use Rattle.machine.specs.declared.state.Refusal.{Refusal}
@@ -40,6 +42,12 @@ Answer x s me m m′ scratch n vs (Err e) o = Refused x m scratch n vs e
 
 pub record BeginSim (code : List ℕ) (m m′ : Store) (p : Slot) (a : Site) (f : Slot) (r : Result Outcome Refusal) : Type 0 where
   pub to : (x : World) (s : System) (me : Worker) (k : List Frame) (sc : List Name) (b : Body) (w : Scope) → x .code .words ≡ code → CodeB (x .names) sc (x .code) p b → SiteIs x m sc a w → FramesAt x m f k → Answer x s me m m′ [] 2 [] r (begin-body k s b w)
+
+pub record OperandsSim (code functions : List ℕ) (m m′ : Store) (scratch : List ℕ) (pid : ℕ) (q st : Slot) (a : Site) (f : Slot) (r : Result Outcome Refusal) : Type 0 where
+  pub to : (x : World) (s : System) (me : Worker) (k : List Frame) (sc : List Name) (o : Operation) (vs : List Value) (es : Exprs) (w : Scope) → Runs x code functions → me .pid ≡ pid → CodeEs (x .names) sc (x .code) q o (length vs + count es) es → Chain (x .names) m st (reverse vs) → SiteIs x m sc a w → FramesAt x m f k → Answer x s me m m′ scratch (3 + length vs) vs r (operands (x .program) k s (me .pid) w o vs es)
+
+pub record EvaluateSim (code functions : List ℕ) (m m′ : Store) (scratch : List ℕ) (pid : ℕ) (p : Slot) (a : Site) (f : Slot) (r : Result Outcome Refusal) : Type 0 where
+  pub to : (x : World) (s : System) (me : Worker) (k : List Frame) (sc : List Name) (e : Expr) (w : Scope) → Runs x code functions → me .pid ≡ pid → CodeE (x .names) sc (x .code) p e → SiteIs x m sc a w → FramesAt x m f k → Answer x s me m m′ scratch 3 [] r (evaluate (x .program) k s (me .pid) e w)
 
 pub record UnwindSim (m m′ : Store) (v f : Slot) (r : Result Outcome Refusal) : Type 0 where
   pub to : (x : World) (s : System) (me : Worker) (k : List Frame) (u : Value) → Holds (x .names) m v u → FramesAt x m f k → Answer x s me m m′ [] 2 [] r (unwind s me u k)

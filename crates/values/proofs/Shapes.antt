@@ -56,7 +56,8 @@ partBy k s =
     (cond (eqb k 4) (Some EmptyTuple)
     (cond (eqb k 16) (Some (Pair s)) (Some (Tuple s)))))))
 
-sfits : (z : ℤ) → fits z ≡ true → SFits w64 z
+-- what fits 64 bits, as the machine says it
+pub sfits : (z : ℤ) → fits z ≡ true → SFits w64 z
 sfits (pos n) e = record { sfits = ltb-true n (2 ^ 63) e }
 sfits (negsuc n) e = record { sfits = ltb-true n (2 ^ 63) e }
 
