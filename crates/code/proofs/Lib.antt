@@ -4,3 +4,4 @@ pub mod Firsts
 pub mod Functions
 pub mod Variables
 pub mod Decoding
+pub mod Chains

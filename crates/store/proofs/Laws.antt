@@ -81,6 +81,9 @@ kept-refl = record { more = omega arith; same = λ j h. refl }
 pub kept-trans : {m₀ m₁ m₂ : Store} → Kept m₀ m₁ → Kept m₁ m₂ → Kept m₀ m₂
 kept-trans g h = record { more = omega (arith, g .more, h .more); same = λ j b. h .same j (omega (arith, g .more)) ∙ g .same j b }
 
+pub kept-same : {m₀ m₁ m₂ : Store} → m₂ ≡ m₁ → Kept m₀ m₁ → Kept m₀ m₂
+kept-same {m₀} e g = subst (λ (q : Store). Kept m₀ q) (sym e) g
+
 -- .. and what was denoted is denoted.
 pub keeps : {m m′ : Store} {s : Slot} {t : Tree} → Kept m m′ → Den m s t → Den m′ s t
 keeps {m} {m′} {s} {t} g d = record { is = denotes-kept g s t (d .is) }

@@ -1,0 +1,4 @@
+pub mod Fitting
+pub mod Agreeing
+pub mod Choosing
+pub mod Turning
