@@ -2,3 +2,4 @@ pub mod Fitting
 pub mod Agreeing
 pub mod Choosing
 pub mod Turning
+pub mod Receiving

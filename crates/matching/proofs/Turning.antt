@@ -27,7 +27,9 @@ turning-goes-on k l r p t =
       left = λ h.
           let u = t .left h in
           let f = chain-first (u .0) k l r (u .1) in (
-            f .tail, chain-kept (p .kept) (f .tail-at), omega (arith, u .2, p .count, ap length (f .is)),
+            f .tail,
+            chain-kept (p .kept) (f .tail-at),
+            omega (arith, u .2, p .count, ap length (f .is)),
           );
       chains = λ h o.
           let u = t .chains h o in

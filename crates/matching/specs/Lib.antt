@@ -3,3 +3,4 @@ pub mod Fit
 pub mod Matches
 pub mod Choices
 pub mod Mailboxes
+pub mod Receives

@@ -3,6 +3,7 @@
 mod clause;
 mod mailbox;
 mod pattern;
+mod receive;
 
 pub use clause::Chosen;
 pub use clause::choose;
@@ -14,3 +15,6 @@ pub use mailbox::push;
 pub use mailbox::rewind;
 pub use pattern::VALUES;
 pub use pattern::fits;
+pub use receive::Received;
+pub use receive::Taken;
+pub use receive::take_first;

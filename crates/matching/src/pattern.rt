@@ -101,11 +101,10 @@ fn fits_within(
                 left -= 1;
                 let parts = both(code, node);
                 let values = heap.both(value);
-                let found =
-                    match fits_within(code, heap, parts.left, values.left, env, depth - 1) {
-                        Ok(found) => found,
-                        Err(full) => return Err(full),
-                    };
+                let found = match fits_within(code, heap, parts.left, values.left, env, depth - 1) {
+                    Ok(found) => found,
+                    Err(full) => return Err(full),
+                };
                 env = match found {
                     Some(bound) => bound,
                     None => return Ok(None),

@@ -76,5 +76,5 @@ parts-again t c =
       p .long ∙ c .parts .inv .0,
       kept-trans (c .parts .inv .1) (p .kept),
       fitting-goes-on (c .in-Node .ensures tt) (c .if-node-value .left) (c .both-parts .ensures .left) (c .both-parts .ensures .right) (c .both-values .ensures .left)
-      (c .both-values .ensures .right) (p .kept) (found-is (c .in-Some .is) (p .cases)) (c .parts .inv .2),
+          (c .both-values .ensures .right) (p .kept) (found-is (c .in-Some .is) (p .cases)) (c .parts .inv .2),
     )
