@@ -4,3 +4,6 @@ pub mod Operating
 pub mod Performs
 pub mod Evaluating
 pub mod Resumes
+pub mod Binds
+pub mod Taking
+pub mod Awaiting

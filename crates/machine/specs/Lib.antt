@@ -6,3 +6,6 @@ pub mod Steps
 pub mod Operators
 pub mod Performing
 pub mod Resuming
+pub mod Binding
+pub mod Turning
+pub mod Receiving
