@@ -1,34 +1,32 @@
 -- A chain of functions of one name has them in the program's order turned round. Since no two functions of a section are alike,
 -- the first in the chain of a section and a number of parameters is the one that the section's list gives.
 use mathlib.Core.Path.{_≡_, refl, sym, ap, subst, _∙_}
-use mathlib.Core.Bool.{Bool, true, false, _&&_, not, cond}
-use mathlib.Core.List.{List, [], _∷_, _++_, reverse}
+use mathlib.Core.Bool.{Bool, true, false, _&&_, cond}
+use mathlib.Core.List.{List, [], _∷_}
 use mathlib.Core.Logic.{_⊎_, inl, inr}
 use mathlib.Core.Option.{Option as Maybe, some, none}
 use Prim.Native.Nat.{ℕ, zero, suc, pred, _+_, _≤_, _<_}
 use native.Mathlib.Omega.{arith}
 use lib.ListN.{length}
 use lib.Dec.{eqb}
-use Rattle.std.specs.declared.option.Option.{Option}
 use Rattle.std.specs.declared.option.Option.the-variants.{Some, None}
-use Rattle.std.proofs.shelf.Tests.{and-parts, and-from}
+use Rattle.std.proofs.shelf.Tests.{and-parts}
 use Rattle.meaning.specs.Basics.{opt, Name, same}
-use Rattle.meaning.specs.Bound.{all-different, no-function, sound-functions, sound-modules}
 use Rattle.meaning.specs.Syntax.{Function, Module, Program}
 use Rattle.meaning.specs.System.{functions-of, function-of}
-use Rattle.meaning.proofs.Splits.{T-of, no-clash, bool-all, none-some, some-is, eqb-no, eqb-yes, eqb-is, same-is, same-refl}
-use Rattle.store.specs.Heap.{Store, storeOf, Den, leftOf, rightOf}
-use Rattle.store.specs.Slots.{slotAt}
-use Rattle.store.specs.Tree.{Tree, leaf, node, spine}
-use Rattle.store.specs.declared.slot.Slot.{Slot}
-use Rattle.store.proofs.Laws.{leaf-is, node-is, node-left, node-right, spine-fits}
-use Rattle.values.specs.Encoding.{indexOf, Known}
+use Rattle.meaning.specs.Bound.{all-different, no-function, sound-functions, sound-modules}
 use Rattle.code.specs.Code.{CodeB}
-use Rattle.code.specs.Fine.{FineB}
 use Rattle.code.specs.Function.{Finds, FunctionIs, no-function-is, function-is}
 use Rattle.code.specs.Kinds.{signature-kind, functions-kind, function-kind}
 use Rattle.code.specs.Program.{section, version-at, Definition, define, definitions, newest-first, scope-of, treeD, nth, Fine-definitions, Stands}
 use Rattle.code.specs.Trees.{treeB}
+use Rattle.store.specs.Heap.{Store, storeOf, Den, leftOf, rightOf}
+use Rattle.store.specs.Slots.{slotAt}
+use Rattle.store.specs.Tree.{leaf, node, spine}
+use Rattle.store.specs.declared.slot.Slot.{Slot}
+use Rattle.values.specs.Encoding.{indexOf, Known}
+use Rattle.meaning.proofs.Splits.{T-of, no-clash, none-some, some-is, eqb-no, eqb-yes, eqb-is, same-is, same-refl}
+use Rattle.store.proofs.Laws.{node-is, node-left, node-right, spine-fits}
 use Rattle.code.proofs.Firsts.{first, Once, first-reverse}
 use Rattle.code.proofs.Instructions.{leaf-has-kind, leaf-has-low, leaf-has-high}
 
@@ -77,15 +75,16 @@ once-define k n y c [] ds s h o = o
 once-define k n y c (f ∷ fs) ds s h o =
     let p = and-parts (no-function fs (f .name) (length (f .params))) _ s in
     let q = and-parts (all-different (f .params)) _ (p .1) in
-    let r = and-parts _ (sound-functions fs) (q .1) in
-    (λ w.
-      let a = and-parts (eqb k n) _ w in
-      let b = and-parts (same (f .name) y) _ (a .1) in
-      let e : k ≡ n = eqb-is k n (a .0) in
-      let l : length (f .params) ≡ c = eqb-is _ _ (b .1) in
-      let z : f .name ≡ y = same-is (f .name) y (T-of (b .0)) in
-      subst (λ j. seek n y c (define j fs ds) ≡ none) (sym e) (seek-define n y c fs ds (h e) ∙ subst (λ x. function-of fs x c ≡ none) z (subst (λ i. function-of fs (f .name) i ≡ none) l (alike-none fs (f .name) (length (f .params)) (p .0)))),
-     once-define k n y c fs ds (r .1) h o)
+    let r = and-parts _ (sound-functions fs) (q .1) in (
+      λ w.
+          let a = and-parts (eqb k n) _ w in
+          let b = and-parts (same (f .name) y) _ (a .1) in
+          let e : k ≡ n = eqb-is k n (a .0) in
+          let l : length (f .params) ≡ c = eqb-is _ _ (b .1) in
+          let z : f .name ≡ y = same-is (f .name) y (T-of (b .0)) in
+          subst (λ j. seek n y c (define j fs ds) ≡ none) (sym e) (seek-define n y c fs ds (h e) ∙ subst (λ x. function-of fs x c ≡ none) z (subst (λ i. function-of fs (f .name) i ≡ none) l (alike-none fs (f .name) (length (f .params)) (p .0)))),
+      once-define k n y c fs ds (r .1) h o,
+    )
 
 once-definitions : (k n : ℕ) (y : Name) (c : ℕ) (g : Program) → sound-modules g ≡ true → Once (wanted n y c) function (definitions k g)
 once-definitions k n y c [] s = tt
@@ -130,6 +129,7 @@ pub record Link (ns : List Name) (code : Store) (s : Slot) (n : ℕ) (y : Name) 
 and-skip : (a b : Bool) → (a && (true && b)) ≡ (a && b)
 and-skip true b = refl
 and-skip false b = refl
+
 and-none : (a b : Bool) → (a && (false && b)) ≡ false
 and-none true b = refl
 and-none false b = refl
@@ -193,16 +193,18 @@ signature-is {code = code} {v = v} {n = n} {c = c} l p q =
     ap (λ z. eqb z n && eqb (v .high) c) (leaf-has-low d) ∙ ap (λ z. eqb (l .head .place) n && eqb z c) (leaf-has-high d)
 
 pub walk-on : {code : List ℕ} {s t u v w : Slot} {i n c : ℕ} {b : Bool} → Walks code s t i n c → t .kind ≡ 29 → u ≡ leftOf code t → v ≡ leftOf code u → b ≡ (eqb (v .low) n && eqb (v .high) c) → b ≡ false → w ≡ rightOf code t → Walks code s w (i + 1) n c
-walk-on {code} {s} {t} {u} {v} {w} {i} {n} {c} ws k p q b h e = record { to = λ {ns} {used} y ds f d.
-    let a = ws .to y ds f d in
-    let l = link-of n y c (a .left) k (a .fine) (a .stands) in
-    record {
-      left = l .others;
-      stands = subst (λ z. Den (storeOf code used) z (treeD ns y (l .others))) (sym e) (l .next);
-      fine = l .fine;
-      sought = a .sought ∙ (l .sought ∙ ap (λ z. cond z (some (l .head .function)) (seek n y c (l .others))) (sym (signature-is l p q) ∙ (sym b ∙ h)));
-      steps = omega (arith, a .steps, l .shorter);
-    } }
+walk-on {code} {s} {t} {u} {v} {w} {i} {n} {c} ws k p q b h e = record {
+  to = λ {ns} {used} y ds f d.
+      let a = ws .to y ds f d in
+      let l = link-of n y c (a .left) k (a .fine) (a .stands) in
+      record {
+        left = l .others;
+        stands = subst (λ z. Den (storeOf code used) z (treeD ns y (l .others))) (sym e) (l .next);
+        fine = l .fine;
+        sought = a .sought ∙ (l .sought ∙ ap (λ z. cond z (some (l .head .function)) (seek n y c (l .others))) (sym (signature-is l p q) ∙ (sym b ∙ h)));
+        steps = omega (arith, a .steps, l .shorter);
+      };
+}
 
 nth-index : (ns : List Name) (y : Name) → Known ns y → nth ns (indexOf ns y) ≡ some y
 nth-index [] y k = absurd k
@@ -219,13 +221,15 @@ module _ {code : List ℕ} (functions : List ℕ) {s t : Slot} {i n : ℕ} (f : 
   in-program {ns} {used} {g} y st k e = ws .to y (newest-first g) (st .fine) (subst (λ z. Den (storeOf code used) z (treeD ns y (newest-first g))) (sym start) (st .chains f y (ap (nth ns) e ∙ nth-index ns y k)))
 
   pub walk-finds : {u v r : Slot} {b : Bool} → t .kind ≡ 29 → u ≡ leftOf code t → v ≡ leftOf code u → b ≡ (eqb (v .low) n && eqb (v .high) c) → b ≡ true → r ≡ rightOf code u → Finds code functions n f c (Some r)
-  walk-finds {u} {v} {r} k p q b h e = record { is = λ {ns} {used} {g} {m} y st se kn ix.
-      let a = in-program y st kn ix in
-      let l = link-of n y c (a .left) k (a .fine) (a .stands) in
-      let o : function-of (m .functions) y c ≡ some (l .head .function) = sym (seek-newest n y c g (st .sound) se) ∙ (a .sought ∙ (l .sought ∙ ap (λ z. cond z (some (l .head .function)) (seek n y c (l .others))) (sym (signature-is l p q) ∙ (sym b ∙ h)))) in
-      let w = function-different (m .functions) y c (sound-section g n (st .sound) se) o in
-      let body : CodeB ns (scope-of (l .head .function)) (storeOf code used) r (l .head .function .body) = subst (λ z. CodeB ns (scope-of (l .head .function)) (storeOf code used) z (l .head .function .body)) (sym (e ∙ ap (rightOf code) p)) (l .body) in
-      subst (λ z. FunctionIs ns (storeOf code used) c (Some r) z) (sym o) (function-is (w .0) (w .1) body) }
+  walk-finds {u} {v} {r} k p q b h e = record {
+    is = λ {ns} {used} {g} {m} y st se kn ix.
+        let a = in-program y st kn ix in
+        let l = link-of n y c (a .left) k (a .fine) (a .stands) in
+        let o : function-of (m .functions) y c ≡ some (l .head .function) = sym (seek-newest n y c g (st .sound) se) ∙ (a .sought ∙ (l .sought ∙ ap (λ z. cond z (some (l .head .function)) (seek n y c (l .others))) (sym (signature-is l p q) ∙ (sym b ∙ h)))) in
+        let w = function-different (m .functions) y c (sound-section g n (st .sound) se) o in
+        let body : CodeB ns (scope-of (l .head .function)) (storeOf code used) r (l .head .function .body) = subst (λ z. CodeB ns (scope-of (l .head .function)) (storeOf code used) z (l .head .function .body)) (sym (e ∙ ap (rightOf code) p)) (l .body) in
+        subst (λ z. FunctionIs ns (storeOf code used) c (Some r) z) (sym o) (function-is (w .0) (w .1) body);
+  }
 
   ends-at : {ns : List Name} {used : ℕ} {g : Program} {m : Module} (y : Name) → Stands ns (storeOf code used) functions g → section g n ≡ some m → Walked ns (storeOf code used) t i n y c (newest-first g) → (t .kind ≡ 29 → ⊥) → FunctionIs ns (storeOf code used) c None (function-of (m .functions) y c)
   ends-at {ns} {used} {g} {m} y st se a k =
@@ -237,9 +241,11 @@ module _ {code : List ℕ} (functions : List ℕ) {s t : Slot} {i n : ℕ} (f : 
 
   -- the chain is no longer than the code has cells
   pub walk-over : length code ≤ i → Finds code functions n f c None
-  walk-over long = record { is = λ {ns} {used} {g} {m} y st se kn ix.
-      let a = in-program y st kn ix in
-      ends-at y st se a (λ k. let l = link-of n y c (a .left) k (a .fine) (a .stands) in omega (arith, a .steps, l .shorter, st .within, long)) }
+  walk-over long = record {
+    is = λ {ns} {used} {g} {m} y st se kn ix.
+        let a = in-program y st kn ix in
+        ends-at y st se a (λ k. let l = link-of n y c (a .left) k (a .fine) (a .stands) in omega (arith, a .steps, l .shorter, st .within, long));
+  }
 
 -- a section's functions are those of its name and version
 version-counts : (g : Program) (n : ℕ) (y : Name) {m : Module} → section g n ≡ some m → 1 ≤ version-at g y n
@@ -256,6 +262,7 @@ functions-at (a ∷ ms) (suc n) {m} e = go (same (a .name) (m .name)) (version-c
   where
     v : ℕ
     v = version-at ms (m .name) n
+
     go : (t : Bool) → 1 ≤ v → functions-of ms (m .name) v ≡ some (m .functions) → cond t (cond (eqb (cond t 1 0 + v) 1) (some (a .functions)) (functions-of ms (m .name) (pred (cond t 1 0 + v)))) (functions-of ms (m .name) (cond t 1 0 + v)) ≡ some (m .functions)
     go true h more =
         let z : eqb (1 + v) 1 ≡ false = eqb-no (1 + v) 1 (λ q. omega arith) in

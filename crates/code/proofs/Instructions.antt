@@ -1,26 +1,24 @@
 -- Each form of an expression has kinds of its own, so the kind of a slot tells the form; a statement's is none of them.
-use mathlib.Core.Path.{_≡_, refl, sym, ap, subst, _∙_}
-use mathlib.Core.Bool.{true, false, cond}
+use mathlib.Core.Path.{_≡_, sym, ap, subst}
+use mathlib.Core.Bool.{cond}
 use mathlib.Core.List.{List}
 use Prim.Native.Nat.{ℕ, _^_}
-use lib.Dec.{eqb}
 use lib.IntN.{pos}
 use borrow.Author.Tests.{ne-eqb, lt-ltb}
 use Rattle.meaning.specs.Basics.{Name}
-use Rattle.meaning.specs.Grammar.{count}
-use Rattle.meaning.specs.Syntax.{Operation, make-tuple, make-pair, call, far-call, spawn, far-spawn, operate, built-in, Expr, int, atom, var, nil, apply, case, receive, receive-until, catch, Exprs, no-e, and-e, Body, last, bind}
+use Rattle.meaning.specs.Syntax.{Operation, make-tuple, make-pair, call, far-call, spawn, far-spawn, operate, built-in, Expr, int, atom, var, nil, apply, case, receive, receive-until, catch, no-e, and-e, Body, last, bind}
 use Rattle.meaning.specs.Values.{v-int, v-atom, v-nil}
-use Rattle.store.specs.Heap.{Store, Den, leftOf, rightOf}
-use Rattle.store.specs.Tree.{leaf}
-use Rattle.store.specs.declared.slot.Slot.{Slot}
-use Rattle.store.proofs.Laws.{leaf-is, node-is, node-left, node-right}
+use Rattle.code.specs.Code.{CodeE, CodeB}
+use Rattle.code.specs.Instruction.{instruction-of, instruction-at, start-of, start-at, number-is, atom-is, nil-is, InstructionIs, constant-is, variable-is, apply-is, case-is, receive-is, until-is, catch-is, StartIs, statement-is, last-is}
 use Rattle.code.specs.Trees.{treeO}
-use Rattle.code.specs.Code.{CodeE, CodeEs, CodeB}
-use Rattle.code.specs.Instruction.{instruction-of, instruction-at, start-of, start-at, IsConstant, number-is, atom-is, nil-is, Constantly, InstructionIs, constant-is, variable-is, apply-is, case-is, receive-is, until-is, catch-is, StartIs, statement-is, last-is}
 use Rattle.code.specs.declared.instruction.Instruction.{Instruction}
 use Rattle.code.specs.declared.instruction.Instruction.the-variants.{Unknown, Apply}
 use Rattle.code.specs.declared.instruction.Start.{Start}
 use Rattle.code.specs.declared.instruction.Start.the-variants.{Statement, Last}
+use Rattle.store.specs.Heap.{Store, Den, leftOf, rightOf}
+use Rattle.store.specs.Tree.{leaf}
+use Rattle.store.specs.declared.slot.Slot.{Slot}
+use Rattle.store.proofs.Laws.{leaf-is, node-is, node-left, node-right}
 
 -- a leaf has its kind, and is a leaf of every store
 pub leaf-has-kind : {m : Store} {s : Slot} {k l h : ℕ} → Den m s (leaf k l h) → s .kind ≡ k
@@ -40,6 +38,7 @@ instruction-is {ns} {sc} {code} {s} e c = go e c
   where
     tells : {e : Expr} {k : ℕ} → s .kind ≡ k → InstructionIs ns sc code s (instruction-of (code .words) s k) e → InstructionIs ns sc code s (instruction-at (code .words) s) e
     tells {e} q h = subst (λ k. InstructionIs ns sc code s (instruction-of (code .words) s k) e) (sym q) h
+
     ended : {e : Expr} (o : Operation) (n : ℕ) → Den code s (treeO ns o n) → InstructionIs ns sc code s Apply e → InstructionIs ns sc code s (instruction-at (code .words) s) e
     ended make-tuple n d i = tells (leaf-has-kind d) i
     ended make-pair n d i = tells (leaf-has-kind d) i
@@ -49,6 +48,7 @@ instruction-is {ns} {sc} {code} {s} e c = go e c
     ended (far-spawn m f) n d i = tells (node-is d) i
     ended (operate o) n d i = tells (leaf-has-kind d) i
     ended (built-in b) n d i = tells (leaf-has-kind d) i
+
     go : (e : Expr) → CodeE ns sc code s e → InstructionIs ns sc code s (instruction-at (code .words) s) e
     go (int n) c = tells (leaf-has-kind (c .stands)) (constant-is (v-int (pos n)) number-is (record { holds = record { fine = lt-ltb n (2 ^ 63) (c .fine); stands = leaf-anywhere (c .stands) } }))
     go (atom y) c = tells (leaf-has-kind (c .stands)) (constant-is (v-atom y) atom-is (record { holds = record { fine = c .fine; stands = leaf-anywhere (c .stands) } }))

@@ -1,18 +1,18 @@
 -- Each operation has a kind or a number of its own.
-use mathlib.Core.Path.{_≡_, refl, sym, ap, subst, _∙_}
+use mathlib.Core.Path.{_≡_, sym, subst}
 use mathlib.Core.List.{List}
 use Prim.Native.Nat.{ℕ}
 use Rattle.meaning.specs.Basics.{Name}
 use Rattle.meaning.specs.Syntax.{Operator as Sign, plus, minus, times, divide, modulo, equal, unequal, less, at-most, Builtin as Named, send, self, link, exit, trap, show, register, whereis, swap, Operation as Done, make-tuple, make-pair, call, far-call, spawn, far-spawn, operate, built-in}
+use Rattle.code.specs.Fine.{FineO, Takes}
+use Rattle.code.specs.Operation.{operator-numbered, builtin-numbered, far-of, far-at, operation-of, operation-at, FarIs, OperationIs, make-tuple-is, make-pair-is, call-is, spawn-is, far-call-is, far-spawn-is, operate-is, built-in-is}
+use Rattle.code.specs.Trees.{treeO, operator-number, builtin-number}
+use Rattle.code.specs.declared.operation.Builtin.the-variants.{Send, Itself, Link, Exit, Trap, Show, Register, Whereis, Swap}
+use Rattle.code.specs.declared.operation.Operation.{Operation}
+use Rattle.code.specs.declared.operation.Operator.the-variants.{Plus, Minus, Times, Divide, Modulo, Equal, Unequal, Less, AtMost}
 use Rattle.store.specs.Heap.{Store, Den, leftOf, rightOf}
 use Rattle.store.specs.declared.slot.Slot.{Slot}
 use Rattle.store.proofs.Laws.{node-is, node-left, node-right}
-use Rattle.code.specs.Fine.{FineO, Takes}
-use Rattle.code.specs.Trees.{treeO, operator-number, builtin-number}
-use Rattle.code.specs.Operation.{operator-numbered, builtin-numbered, far-of, far-at, operation-of, operation-at, FarIs, OperationIs, make-tuple-is, make-pair-is, call-is, spawn-is, far-call-is, far-spawn-is, operate-is, built-in-is}
-use Rattle.code.specs.declared.operation.Operator.the-variants.{Plus, Minus, Times, Divide, Modulo, Equal, Unequal, Less, AtMost}
-use Rattle.code.specs.declared.operation.Builtin.the-variants.{Send, Itself, Link, Exit, Trap, Show, Register, Whereis, Swap}
-use Rattle.code.specs.declared.operation.Operation.{Operation}
 use Rattle.code.proofs.Instructions.{leaf-has-kind, leaf-has-low, leaf-has-high}
 
 operator-is : {ns : List Name} {n : ℕ} (o : Sign) → n ≡ 2 → OperationIs ns (operator-numbered (operator-number o)) (operate o) n
@@ -42,10 +42,13 @@ operation-is {ns} {code} {s} {n} o f d = go o f d
   where
     tells : {o : Done} {k : ℕ} → s .kind ≡ k → OperationIs ns (operation-of (code .words) s k) o n → OperationIs ns (operation-at (code .words) s) o n
     tells {o} q h = subst (λ k. OperationIs ns (operation-of (code .words) s k) o n) (sym q) h
+
     one : Slot
     one = leftOf (code .words) s
+
     two : Slot
     two = rightOf (code .words) s
+
     go : (o : Done) → FineO ns o n → Den code s (treeO ns o n) → OperationIs ns (operation-at (code .words) s) o n
     go make-tuple f d = tells (leaf-has-kind d) make-tuple-is
     go make-pair f d = tells (leaf-has-kind d) (make-pair-is f)

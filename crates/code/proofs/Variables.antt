@@ -1,29 +1,27 @@
 -- The value of a name is as far down the chain as the name's index says; and operands, the last one first, are an environment
 -- for a function's parameters, the last one first, since parameters all differ.
 use mathlib.Core.Path.{_≡_, refl, sym, ap, subst, _∙_}
-use mathlib.Core.Bool.{Bool, true, false, _&&_, _||_, not, cond}
+use mathlib.Core.Bool.{Bool, true, false, _||_, not, cond}
 use mathlib.Core.List.{List, [], _∷_, _++_, reverse, reverse-cons}
 use mathlib.Core.Logic.{_⊎_, inl, inr}
-use mathlib.Core.Option.{Option, some, none}
+use mathlib.Core.Option.{some, none}
 use Prim.Native.Nat.{ℕ, zero, suc, _+_}
 use native.Mathlib.Omega.{arith}
 use lib.ListN.{length}
 use Rattle.std.proofs.shelf.Lists.{length-reverse}
 use Rattle.std.proofs.shelf.Tests.{and-parts}
 use Rattle.meaning.specs.Basics.{Name, same, listed}
-use Rattle.meaning.specs.Bound.{all-different}
-use Rattle.meaning.specs.Space.{sizeV, size-values, size-bindings}
-use Rattle.meaning.specs.Turns.{bind-params}
 use Rattle.meaning.specs.Values.{Value, Binding, look-up}
-use Rattle.meaning.proofs.Splits.{T-of, no-clash, bool-all, none-some, some-is, same-is, same-refl}
-use Rattle.store.specs.Heap.{Store, storeOf, Den, leftOf, rightOf}
-use Rattle.store.specs.declared.slot.Slot.{Slot}
-use Rattle.store.proofs.Laws.{node-left, node-right}
-use Rattle.values.specs.Encoding.{indexOf, Known, Fine, Holds, treeV}
-use Rattle.values.specs.Space.{chain}
-use Rattle.code.specs.Environment.{values-kind, Fine-values, Chain, pair-up, Binds, Environment, LooksUp}
+use Rattle.meaning.specs.Turns.{bind-params}
+use Rattle.meaning.specs.Bound.{all-different}
+use Rattle.meaning.specs.Space.{size-values, size-bindings}
+use Rattle.code.specs.Environment.{Chain, pair-up, Binds, LooksUp}
 use Rattle.code.specs.Program.{nth}
-use Rattle.code.specs.Trees.{nothing}
+use Rattle.store.specs.Heap.{Store, storeOf, leftOf, rightOf}
+use Rattle.store.specs.declared.slot.Slot.{Slot}
+use Rattle.values.specs.Encoding.{indexOf, Known, Holds}
+use Rattle.meaning.proofs.Splits.{T-of, no-clash, bool-all, none-some, some-is, same-is, same-refl}
+use Rattle.store.proofs.Laws.{node-left, node-right}
 use Rattle.code.proofs.Firsts.{first, Once, first-reverse}
 
 -- so many steps down a chain
@@ -54,14 +52,19 @@ index-finds (x ∷ sc) (u ∷ vs) y k l = go (same x y) k (λ h. index-finds sc 
     go false (inr k) more = more k
 
 pub looks-up : {words : List ℕ} {env rest r : Slot} {i : ℕ} → rest ≡ descend words i env → r ≡ leftOf words rest → LooksUp words env i r
-looks-up {words} {env} {rest} {r} {i} p q = record { is = λ {ns} {used} {sc} {bs} y e k n.
-    let o = index-finds sc (e .values) y k (e .binds .long) in
-    (o .0, e .binds .finds y ∙ o .2,
-     subst (λ z. Holds ns (storeOf words used) z (o .0)) (sym (q ∙ ap (leftOf words) (p ∙ ap (λ j. descend words j env) n))) (chain-holds (indexOf sc y) (e .values) (o .1) (e .holds))) }
+looks-up {words} {env} {rest} {r} {i} p q = record {
+  is = λ {ns} {used} {sc} {bs} y e k n.
+      let o = index-finds sc (e .values) y k (e .binds .long) in (
+        o .0,
+        e .binds .finds y ∙ o .2,
+        subst (λ z. Holds ns (storeOf words used) z (o .0)) (sym (q ∙ ap (leftOf words) (p ∙ ap (λ j. descend words j env) n))) (chain-holds (indexOf sc y) (e .values) (o .1) (e .holds)),
+      );
+}
 
 -- parameters and operands turned round
 abbrev named : Name → Binding → Bool
 named x b = same (b .name) x
+
 abbrev valued : Binding → Value
 valued b = b .value
 

@@ -20,6 +20,7 @@ abbrev mutual
   deepP (p-tuple ps) = deepPs ps
   deepP p-nil = 0
   deepP (p-cons a b) = max (suc (deepP a)) (deepP b)
+
   pub deepPs : Patterns → ℕ
   deepPs no-p = 0
   deepPs (and-p p ps) = max (suc (deepP p)) (deepPs ps)
@@ -33,6 +34,7 @@ abbrev mutual
   FineP ns (p-tuple ps) = FinePs ns ps
   FineP ns p-nil = Unit {0}
   FineP ns (p-cons a b) = FineP ns a × FineP ns b
+
   pub FinePs : List Name → Patterns → Type 0
   FinePs ns no-p = Unit {0}
   FinePs ns (and-p p ps) = FineP ns p × FinePs ns ps
@@ -75,12 +77,15 @@ abbrev mutual
   FineE ns sc (receive cs) = FineCs ns sc cs
   FineE ns sc (receive-until cs e b) = FineCs ns sc cs × FineE ns sc e × FineB ns sc b
   FineE ns sc (catch b) = FineB ns sc b
+
   pub FineEs : List Name → List Name → Exprs → Type 0
   FineEs ns sc no-e = Unit {0}
   FineEs ns sc (and-e e es) = FineE ns sc e × FineEs ns sc es
+
   pub FineB : List Name → List Name → Body → Type 0
   FineB ns sc (last e) = FineE ns sc e
   FineB ns sc (bind p e b) = Matchable ns p × FineE ns sc e × FineB ns (bound-by p sc) b
+
   pub FineCs : List Name → List Name → Clauses → Type 0
   FineCs ns sc no-c = Unit {0}
   FineCs ns sc (clause p b cs) = Matchable ns p × FineB ns (bound-by p sc) b × FineCs ns sc cs

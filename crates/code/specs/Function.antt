@@ -8,14 +8,14 @@ use lib.ListN.{length}
 use Rattle.std.specs.declared.option.Option.{Option}
 use Rattle.std.specs.declared.option.Option.the-variants.{Some, None}
 use Rattle.meaning.specs.Basics.{Name}
-use Rattle.meaning.specs.Bound.{all-different}
 use Rattle.meaning.specs.Syntax.{Function, Module, Program}
 use Rattle.meaning.specs.System.{function-of}
+use Rattle.meaning.specs.Bound.{all-different}
+use Rattle.code.specs.Code.{CodeB}
+use Rattle.code.specs.Program.{section, scope-of, Stands}
 use Rattle.store.specs.Heap.{Store, storeOf}
 use Rattle.store.specs.declared.slot.Slot.{Slot}
 use Rattle.values.specs.Encoding.{indexOf, Known}
-use Rattle.code.specs.Program.{section, scope-of, Stands}
-use Rattle.code.specs.Code.{CodeB}
 
 -- the slot of the body of a function with c parameters, all different
 pub data FunctionIs (ns : List Name) (code : Store) (c : ℕ) : Option Slot → Maybe Function → Type 0 where

@@ -1,23 +1,23 @@
 -- What a slot of the code is read as: an expression's outermost part, and what a body begins with.
 use mathlib.Core.Path.{_≡_}
-use mathlib.Core.Bool.{Bool, true, false, _&&_, _||_, cond}
+use mathlib.Core.Bool.{Bool, _&&_, _||_, cond}
 use mathlib.Core.List.{List}
 use Prim.Native.Nat.{ℕ}
 use lib.Dec.{eqb, leb}
 use lib.IntN.{pos}
 use Rattle.meaning.specs.Basics.{Name}
-use Rattle.meaning.specs.Grammar.{count}
 use Rattle.meaning.specs.Syntax.{Pattern, Operation, Expr, int, atom, var, nil, apply, case, receive, receive-until, catch, Exprs, Body, last, bind, Clauses}
 use Rattle.meaning.specs.Values.{Value, v-int, v-atom, v-nil}
-use Rattle.store.specs.Heap.{Store, leftOf, rightOf}
-use Rattle.store.specs.declared.slot.Slot.{Slot}
-use Rattle.values.specs.Encoding.{indexOf, Known, Holds}
-use Rattle.code.specs.Kinds.{variable-kind, case-kind, receive-kind, until-kind, catch-kind, statement-kind}
+use Rattle.meaning.specs.Grammar.{count}
 use Rattle.code.specs.Code.{CodeE, CodeEs, CodeB}
+use Rattle.code.specs.Kinds.{variable-kind, case-kind, receive-kind, until-kind, catch-kind, statement-kind}
 use Rattle.code.specs.declared.instruction.Instruction.{Instruction}
 use Rattle.code.specs.declared.instruction.Instruction.the-variants.{Constant, Variable, Apply, Case, Receive, ReceiveUntil, Catch, Unknown}
 use Rattle.code.specs.declared.instruction.Start.{Start}
 use Rattle.code.specs.declared.instruction.Start.the-variants.{Statement, Last}
+use Rattle.store.specs.Heap.{Store, leftOf, rightOf}
+use Rattle.store.specs.declared.slot.Slot.{Slot}
+use Rattle.values.specs.Encoding.{indexOf, Known, Holds}
 
 -- the kinds from a to b
 abbrev pub within : ℕ → ℕ → ℕ → Bool

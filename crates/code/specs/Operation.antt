@@ -6,18 +6,18 @@ use Prim.Native.Nat.{ℕ}
 use lib.Dec.{eqb}
 use Rattle.meaning.specs.Basics.{Name}
 use Rattle.meaning.specs.Syntax.{Operator as Sign, plus, minus, times, divide, modulo, equal, unequal, less, at-most, Builtin as Named, send, self, link, exit, trap, show, register, whereis, swap, Operation as Done, make-tuple, make-pair, call, far-call, spawn, far-spawn, operate, built-in}
-use Rattle.store.specs.Heap.{Store, leftOf, rightOf}
-use Rattle.store.specs.declared.slot.Slot.{Slot}
-use Rattle.values.specs.Encoding.{indexOf, Known}
 use Rattle.code.specs.Fine.{Takes}
 use Rattle.code.specs.Kinds.{make-tuple-kind, make-pair-kind, call-kind, spawn-kind, operator-kind, builtin-kind, far-kind}
-use Rattle.code.specs.declared.operation.Operator.{Operator}
-use Rattle.code.specs.declared.operation.Operator.the-variants.{Plus, Minus, Times, Divide, Modulo, Equal, Unequal, Less, AtMost}
 use Rattle.code.specs.declared.operation.Builtin.{Builtin}
 use Rattle.code.specs.declared.operation.Builtin.the-variants.{Send, Itself, Link, Exit, Trap, Show, Register, Whereis, Swap}
 use Rattle.code.specs.declared.operation.Far.{Far}
 use Rattle.code.specs.declared.operation.Operation.{Operation}
 use Rattle.code.specs.declared.operation.Operation.the-variants.{MakeTuple, MakePair, Call, Spawn, FarCall, FarSpawn, Operate, BuiltIn, Unknown}
+use Rattle.code.specs.declared.operation.Operator.{Operator}
+use Rattle.code.specs.declared.operation.Operator.the-variants.{Plus, Minus, Times, Divide, Modulo, Equal, Unequal, Less, AtMost}
+use Rattle.store.specs.Heap.{leftOf, rightOf}
+use Rattle.store.specs.declared.slot.Slot.{Slot}
+use Rattle.values.specs.Encoding.{indexOf, Known}
 
 abbrev pub operator-of : Operator → Sign
 operator-of Plus = plus

@@ -36,6 +36,7 @@ pub record Definition : Type 0 where
 abbrev pub define : ℕ → List Function → List Definition → List Definition
 define n [] ds = ds
 define n (f ∷ fs) ds = record { place = n; function = f } ∷ define n fs ds
+
 abbrev pub definitions : ℕ → Program → List Definition
 definitions n [] = []
 definitions n (m ∷ ms) = define n (m .functions) (definitions (suc n) ms)

@@ -25,6 +25,7 @@ abbrev mutual
   treeP ns (p-tuple ps) = treePs ns ps
   treeP ns p-nil = nothing
   treeP ns (p-cons a b) = node 16 (treeP ns a) (treeP ns b)
+
   pub treePs : List Name → Patterns → Tree
   treePs ns no-p = leaf 4 0 0
   treePs ns (and-p p ps) = node 17 (treeP ns p) (treePs ns ps)
@@ -74,12 +75,15 @@ abbrev mutual
   treeE ns sc (receive cs) = node receive-kind (treeCs ns sc cs) nothing
   treeE ns sc (receive-until cs e b) = node until-kind (treeCs ns sc cs) (node timeout-kind (treeE ns sc e) (treeB ns sc b))
   treeE ns sc (catch b) = node catch-kind (treeB ns sc b) nothing
+
   pub treeEs : List Name → List Name → Tree → Exprs → Tree
   treeEs ns sc end no-e = end
   treeEs ns sc end (and-e e es) = node operand-kind (treeE ns sc e) (treeEs ns sc end es)
+
   pub treeB : List Name → List Name → Body → Tree
   treeB ns sc (last e) = treeE ns sc e
   treeB ns sc (bind p e b) = node statement-kind (treeP ns p) (node then-kind (treeE ns sc e) (treeB ns (bound-by p sc) b))
+
   pub treeCs : List Name → List Name → Clauses → Tree
   treeCs ns sc no-c = nothing
   treeCs ns sc (clause p b cs) = node clauses-kind (node clause-kind (treeP ns p) (treeB ns (bound-by p sc) b)) (treeCs ns sc cs)

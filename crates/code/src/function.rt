@@ -4,13 +4,13 @@ ghost use mathlib.Core.Bool.{_&&_};
 ghost use mathlib.Core.Path.{_≡_};
 ghost use lib.Dec.{eqb};
 ghost use Rattle.code.specs.Function.{Finds};
+use crate::kinds::FUNCTIONS;
+use crate::program::Program;
 use store::Slot;
 use store::left;
 use store::read_slot;
 use store::right;
 use values::Atom;
-use crate::kinds::FUNCTIONS;
-use crate::program::Program;
 
 /// The body of the function of that name with `count` parameters in that section, if there is one.
 pub fn find_function(program: Program<'_>, section: u32, name: Atom, count: u32) -> Option<Slot>

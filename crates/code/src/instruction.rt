@@ -2,11 +2,6 @@
 
 ghost use mathlib.Core.Path.{_≡_};
 ghost use Rattle.code.specs.Instruction.{instruction-at, start-at};
-use store::Slot;
-use store::left;
-use store::right;
-use values::NIL;
-use values::NUMBER;
 use crate::kinds::BUILTIN;
 use crate::kinds::CASE;
 use crate::kinds::CATCH;
@@ -17,6 +12,11 @@ use crate::kinds::RECEIVE;
 use crate::kinds::STATEMENT;
 use crate::kinds::UNTIL;
 use crate::kinds::VARIABLE;
+use store::Slot;
+use store::left;
+use store::right;
+use values::NIL;
+use values::NUMBER;
 
 /// The outermost part of an expression.
 #[derive(Clone, Copy)]

@@ -2,10 +2,6 @@
 
 ghost use mathlib.Core.Path.{_≡_};
 ghost use Rattle.code.specs.Operation.{builtin-numbered, far-of, operation-at, operator-numbered};
-use store::Slot;
-use store::left;
-use store::right;
-use values::Atom;
 use crate::kinds::BUILTIN;
 use crate::kinds::CALL;
 use crate::kinds::FAR;
@@ -13,6 +9,10 @@ use crate::kinds::MAKE_PAIR;
 use crate::kinds::MAKE_TUPLE;
 use crate::kinds::OPERATOR;
 use crate::kinds::SPAWN;
+use store::Slot;
+use store::left;
+use store::right;
+use values::Atom;
 
 /// `+ - * / % == != < <=`
 #[derive(Clone, Copy)]

@@ -15,15 +15,6 @@ use Rattle.meaning.specs.Basics.{Name}
 use Rattle.meaning.specs.Values.{Value, v-int, v-cons, as-int, sameV}
 use Rattle.meaning.specs.System.{Control as Meant, Frame, System}
 use Rattle.meaning.specs.Turns.{Outcome as Means, goes-on, gives, truth, number, divided, operate-on}
-use Rattle.numbers.specs.Exact.{Exact}
-use Rattle.numbers.specs.Divided.{Divided}
-use Rattle.numbers.specs.declared.division.Division.{Division}
-use Rattle.store.specs.Heap.{Store}
-use Rattle.store.specs.Tree.{cells}
-use Rattle.store.specs.declared.slot.Slot.{Slot}
-use Rattle.values.specs.Encoding.{treeV, Holds}
-use Rattle.values.specs.declared.value.Value.{Value as Part}
-use Rattle.values.specs.declared.value.Value.the-variants.{Number, Atom, Worker, Nil, EmptyTuple, Tuple, Pair}
 use Rattle.code.specs.Environment.{Chain}
 use Rattle.code.specs.Operation.{operator-of}
 use Rattle.code.specs.declared.operation.Operator.{Operator}
@@ -31,6 +22,15 @@ use Rattle.machine.specs.State.{World, ControlIs}
 use Rattle.machine.specs.declared.state.Control.{Control}
 use Rattle.machine.specs.declared.state.Refusal.{Refusal}
 use Rattle.machine.specs.declared.state.Refusal.the-variants.{Full, TooLarge}
+use Rattle.numbers.specs.Divided.{Divided}
+use Rattle.numbers.specs.Exact.{Exact}
+use Rattle.numbers.specs.declared.division.Division.{Division}
+use Rattle.store.specs.Heap.{Store}
+use Rattle.store.specs.Tree.{cells}
+use Rattle.store.specs.declared.slot.Slot.{Slot}
+use Rattle.values.specs.Encoding.{treeV, Holds}
+use Rattle.values.specs.declared.value.Value.{Value as Part}
+use Rattle.values.specs.declared.value.Value.the-variants.{Number, Atom, Worker, Nil, EmptyTuple, Tuple, Pair}
 
 -- the worker goes on with r, whatever its frames and the system are
 pub record Leads (x : World) (m : Store) (r : Control) (f : List Frame → System → Means) : Type 0 where
@@ -88,11 +88,15 @@ abbrev pub Apart : Value → Value → Type 0
 Apart u v = (as-int u ≡ none) ⊎ (as-int v ≡ none)
 
 -- two values of which one is no number
-pub record Compared (m : Store) (scratch : List ℕ) (o : Operator) (a b : Slot) (r : Result Control Refusal) : Type 0 where
-  pub to : (x : World) (u v : Value) → Holds (x .names) m a u → Holds (x .names) m b v → Apart u v → Operated x m scratch u r (λ k s. operate-on k s (operator-of o) u v)
+pub record Compared (m : Store) (scratch : List ℕ) (o : Operator) (a b : Slot) (r : Result Control Refusal) :
+    Type 0 where
+  pub to : (x : World) (u v : Value) → Holds (x .names) m a u → Holds (x .names) m b v → Apart u v →
+      Operated x m scratch u r (λ k s. operate-on k s (operator-of o) u v)
 
-pub record OperateSim (m : Store) (scratch : List ℕ) (o : Operator) (st : Slot) (r : Result Control Refusal) : Type 0 where
-  pub to : (x : World) (u v : Value) → Chain (x .names) m st (v ∷ u ∷ []) → Operated x m scratch u r (λ k s. operate-on k s (operator-of o) u v)
+pub record OperateSim (m : Store) (scratch : List ℕ) (o : Operator) (st : Slot) (r : Result Control Refusal) :
+    Type 0 where
+  pub to : (x : World) (u v : Value) → Chain (x .names) m st (v ∷ u ∷ []) → Operated x m scratch u r
+      (λ k s. operate-on k s (operator-of o) u v)
 
 -- r is the pair of the two operands, of one cell
 pub record Paired (m m′ : Store) (st r : Slot) : Type 0 where

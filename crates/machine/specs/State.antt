@@ -5,10 +5,13 @@ use mathlib.Core.Option.{some}
 use Prim.Native.Nat.{ℕ, suc, _+_, _≤_, _^_}
 use lib.ListN.{length}
 use Rattle.meaning.specs.Basics.{Name}
-use Rattle.meaning.specs.Atoms.{a-type, a-match, a-clause, a-zero, a-big, a-undef, a-normal, a-old, a-gone, a-ok, a-error, a-exit, a-none, a-true, a-false, a-main}
-use Rattle.meaning.specs.Syntax.{Pattern, Operation, Expr, case, receive, receive-until, Exprs, and-e, Body, bind, Clauses, Module, Program}
+use Rattle.meaning.specs.Atoms.{a-type, a-match, a-clause, a-zero, a-big, a-undef, a-normal, a-old, a-gone, a-ok,
+    a-error, a-exit, a-none, a-true, a-false, a-main}
+use Rattle.meaning.specs.Syntax.{Pattern, Operation, Expr, case, receive, receive-until, Exprs, and-e, Body, bind,
+    Clauses, Module, Program}
 use Rattle.meaning.specs.Values.{Value}
-use Rattle.meaning.specs.System.{Scope, Until, for-ever, until, Control as Meant, eval, give, enter, fail, wait, Frame, operands-frame, bind-frame, case-frame, until-frame, catch-frame}
+use Rattle.meaning.specs.System.{Scope, Until, for-ever, until, Control as Meant, eval, give, enter, fail, wait,
+    Frame, operands-frame, bind-frame, case-frame, until-frame, catch-frame}
 use Rattle.meaning.specs.Grammar.{count}
 use Rattle.store.specs.Heap.{Store, Den}
 use Rattle.store.specs.Tree.{Tree, leaf, node}
@@ -69,16 +72,22 @@ pub record SiteIs (x : World) (m : Store) (sc : List Name) (a : Site) (w : Scope
 -- that node is
 abbrev pub place-kind : ℕ
 place-kind = 5
+
 abbrev pub operands-frame-kind : ℕ
 operands-frame-kind = 32
+
 abbrev pub bind-frame-kind : ℕ
 bind-frame-kind = 33
+
 abbrev pub case-frame-kind : ℕ
 case-frame-kind = 34
+
 abbrev pub until-frame-kind : ℕ
 until-frame-kind = 35
+
 abbrev pub catch-frame-kind : ℕ
 catch-frame-kind = 36
+
 abbrev pub part-kind : ℕ
 part-kind = 37
 
@@ -97,20 +106,30 @@ treeF x kind p n us t = node kind (node part-kind (leaf place-kind p n) (chain (
 
 pub data FramesAre (x : World) : Tree → List Frame → Type 0 where
   no-frames : FramesAre x nothing []
-  operands-at : {p n : ℕ} {t : Tree} (sc : List Name) (us vs : List Value) {o : Operation} {e : Expr} {es : Exprs} {w : Scope} {k : List Frame} →
-    CodeEs (x .names) sc (x .code) (placed operand-kind p) o (length vs + suc (count es)) (and-e e es) → Framed x sc n us w → Fine-values (x .names) (reverse vs) →
-    FramesAre x t k →
-    FramesAre x (node operands-frame-kind (node part-kind (leaf place-kind p n) (node part-kind (chain (x .names) values-kind nothing us) (chain (x .names) values-kind nothing (reverse vs)))) t) (operands-frame o vs es w ∷ k)
-  bind-at : {p n : ℕ} {t : Tree} (sc : List Name) (us : List Value) {a : Pattern} {e : Expr} {b : Body} {w : Scope} {k : List Frame} →
-    CodeB (x .names) sc (x .code) (placed statement-kind p) (bind a e b) → Framed x sc n us w → FramesAre x t k →
-    FramesAre x (treeF x bind-frame-kind p n us t) (bind-frame a b w ∷ k)
-  case-at : {p n : ℕ} {t : Tree} (sc : List Name) (us : List Value) {e : Expr} {cs : Clauses} {w : Scope} {k : List Frame} →
-    CodeE (x .names) sc (x .code) (placed case-kind p) (case e cs) → Framed x sc n us w → FramesAre x t k →
-    FramesAre x (treeF x case-frame-kind p n us t) (case-frame cs w ∷ k)
-  until-at : {p n : ℕ} {t : Tree} (sc : List Name) (us : List Value) {cs : Clauses} {e : Expr} {b : Body} {w : Scope} {k : List Frame} →
-    CodeE (x .names) sc (x .code) (placed until-kind p) (receive-until cs e b) → Framed x sc n us w → FramesAre x t k →
-    FramesAre x (treeF x until-frame-kind p n us t) (until-frame cs b w ∷ k)
-  catch-at : {t : Tree} {k : List Frame} → FramesAre x t k → FramesAre x (node catch-frame-kind nothing t) (catch-frame ∷ k)
+  operands-at : {p n : ℕ} {t : Tree} (sc : List Name) (us vs : List Value) {o : Operation} {e : Expr} {es : Exprs}
+      {w : Scope} {k : List Frame} →
+      CodeEs (x .names) sc (x .code) (placed operand-kind p) o (length vs + suc (count es)) (and-e e es) →
+          Framed x sc n us w → Fine-values (x .names) (reverse vs) →
+      FramesAre x t k →
+      FramesAre x (node operands-frame-kind
+          (node part-kind (leaf place-kind p n)
+          (node part-kind (chain (x .names) values-kind nothing us)
+          (chain (x .names) values-kind nothing (reverse vs)))) t) (operands-frame o vs es w ∷ k)
+  bind-at : {p n : ℕ} {t : Tree} (sc : List Name) (us : List Value) {a : Pattern} {e : Expr} {b : Body} {w : Scope}
+      {k : List Frame} →
+      CodeB (x .names) sc (x .code) (placed statement-kind p) (bind a e b) → Framed x sc n us w → FramesAre x t k →
+      FramesAre x (treeF x bind-frame-kind p n us t) (bind-frame a b w ∷ k)
+  case-at : {p n : ℕ} {t : Tree} (sc : List Name) (us : List Value) {e : Expr} {cs : Clauses} {w : Scope}
+      {k : List Frame} →
+      CodeE (x .names) sc (x .code) (placed case-kind p) (case e cs) → Framed x sc n us w → FramesAre x t k →
+      FramesAre x (treeF x case-frame-kind p n us t) (case-frame cs w ∷ k)
+  until-at : {p n : ℕ} {t : Tree} (sc : List Name) (us : List Value) {cs : Clauses} {e : Expr} {b : Body} {w : Scope}
+      {k : List Frame} →
+      CodeE (x .names) sc (x .code) (placed until-kind p) (receive-until cs e b) → Framed x sc n us w →
+          FramesAre x t k →
+      FramesAre x (treeF x until-frame-kind p n us t) (until-frame cs b w ∷ k)
+  catch-at : {t : Tree} {k : List Frame} → FramesAre x t k →
+      FramesAre x (node catch-frame-kind nothing t) (catch-frame ∷ k)
 
 pub record FramesAt (x : World) (m : Store) (s : Slot) (k : List Frame) : Type 0 where
   pub tree : Tree
@@ -119,9 +138,14 @@ pub record FramesAt (x : World) (m : Store) (s : Slot) (k : List Frame) : Type 0
 
 -- the time of a wait with a time is kept by the scheduler, so any will do here
 pub data ControlIs (x : World) (m : Store) : Control → Meant → Type 0 where
-  eval-is : {p : Slot} {a : Site} (sc : List Name) {e : Expr} {w : Scope} → CodeE (x .names) sc (x .code) p e → SiteIs x m sc a w → ControlIs x m (Eval p a) (eval e w)
+  eval-is : {p : Slot} {a : Site} (sc : List Name) {e : Expr} {w : Scope} → CodeE (x .names) sc (x .code) p e →
+      SiteIs x m sc a w → ControlIs x m (Eval p a) (eval e w)
   give-is : {s : Slot} (v : Value) → Holds (x .names) m s v → ControlIs x m (Give s) (give v)
-  enter-is : {p : Slot} {a : Site} (sc : List Name) {b : Body} {w : Scope} → CodeB (x .names) sc (x .code) p b → SiteIs x m sc a w → ControlIs x m (Enter p a) (enter b w)
+  enter-is : {p : Slot} {a : Site} (sc : List Name) {b : Body} {w : Scope} → CodeB (x .names) sc (x .code) p b →
+      SiteIs x m sc a w → ControlIs x m (Enter p a) (enter b w)
   fail-is : {s : Slot} (v : Value) → Holds (x .names) m s v → ControlIs x m (Fail s) (fail v)
-  wait-is : {p : Slot} {a : Site} (sc : List Name) {cs : Clauses} {w : Scope} → CodeE (x .names) sc (x .code) p (receive cs) → SiteIs x m sc a w → ControlIs x m (Wait p a) (wait cs for-ever w)
-  wait-until-is : {p : Slot} {a : Site} (sc : List Name) {cs : Clauses} {e : Expr} {t : ℕ} {b : Body} {w : Scope} → CodeE (x .names) sc (x .code) p (receive-until cs e b) → SiteIs x m sc a w → ControlIs x m (Wait p a) (wait cs (until t b) w)
+  wait-is : {p : Slot} {a : Site} (sc : List Name) {cs : Clauses} {w : Scope} →
+      CodeE (x .names) sc (x .code) p (receive cs) → SiteIs x m sc a w → ControlIs x m (Wait p a) (wait cs for-ever w)
+  wait-until-is : {p : Slot} {a : Site} (sc : List Name) {cs : Clauses} {e : Expr} {t : ℕ} {b : Body} {w : Scope} →
+      CodeE (x .names) sc (x .code) p (receive-until cs e b) → SiteIs x m sc a w →
+      ControlIs x m (Wait p a) (wait cs (until t b) w)

@@ -3,6 +3,12 @@
 ghost use Rattle.store.specs.Heap.{stored};
 ghost use Rattle.machine.specs.Binding.{BindSim, CaseSim};
 ghost use Rattle.machine.specs.Frames.{Grows};
+use crate::atoms::CLAUSE;
+use crate::atoms::MATCH;
+use crate::state::Control;
+use crate::state::Outcome;
+use crate::state::Refusal;
+use crate::state::Site;
 use matching::choose;
 use matching::fits;
 use store::Full;
@@ -10,12 +16,6 @@ use store::Heap;
 use store::Slot;
 use store::left;
 use store::right;
-use crate::atoms::CLAUSE;
-use crate::atoms::MATCH;
-use crate::state::Control;
-use crate::state::Outcome;
-use crate::state::Refusal;
-use crate::state::Site;
 
 /// The value of a statement is there: its pattern is matched, and the rest of the body begins with what it binds.
 pub fn bind(

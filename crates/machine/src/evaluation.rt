@@ -3,19 +3,6 @@
 ghost use Rattle.store.specs.Heap.{stored};
 ghost use Rattle.machine.specs.Frames.{Grows};
 ghost use Rattle.machine.specs.Steps.{BeginSim, EvaluateSim, OperandsSim};
-use code::Instruction;
-use code::OPERAND;
-use code::Program;
-use code::Start;
-use code::look_up;
-use code::read_body;
-use code::read_instruction;
-use store::Full;
-use store::Heap;
-use store::Slot;
-use store::left;
-use values::NIL;
-use values::WorkerId;
 use crate::atoms::UNDEF;
 use crate::frames::BIND_FRAME;
 use crate::frames::CASE_FRAME;
@@ -29,6 +16,19 @@ use crate::state::Control;
 use crate::state::Outcome;
 use crate::state::Refusal;
 use crate::state::Site;
+use code::Instruction;
+use code::OPERAND;
+use code::Program;
+use code::Start;
+use code::look_up;
+use code::read_body;
+use code::read_instruction;
+use store::Full;
+use store::Heap;
+use store::Slot;
+use store::left;
+use values::NIL;
+use values::WorkerId;
 
 /// No operands so far, and what stands in a frame that has nothing to keep.
 pub const NOTHING: Slot = Slot {
@@ -52,14 +52,40 @@ pub fn evaluate(
 {
     match read_instruction(program.code, expression) {
         Instruction::Constant => Ok(Outcome::GoesOn(Control::Give(expression), frames)),
-        Instruction::Variable(index) => Ok(Outcome::GoesOn(Control::Give(look_up(heap, site.env, index)), frames)),
-        Instruction::Apply => operands(program, heap, scratch, me, expression, NOTHING, site, frames),
-        Instruction::Case(value) => match make_frame(heap, CASE_FRAME, expression, site.section, site.env, frames) {
+        Instruction::Variable(index) => Ok(Outcome::GoesOn(
+            Control::Give(look_up(heap, site.env, index)),
+            frames,
+        )),
+        Instruction::Apply => operands(
+            program,
+            heap,
+            scratch,
+            me,
+            expression,
+            NOTHING,
+            site,
+            frames,
+        ),
+        Instruction::Case(value) => match make_frame(
+            heap,
+            CASE_FRAME,
+            expression,
+            site.section,
+            site.env,
+            frames,
+        ) {
             Ok(waits) => Ok(Outcome::GoesOn(Control::Eval(value, site), waits)),
             Err(Full) => Err(Refusal::Full),
         },
         Instruction::Receive => Ok(Outcome::GoesOn(Control::Wait(expression, site), frames)),
-        Instruction::ReceiveUntil(time) => match make_frame(heap, UNTIL_FRAME, expression, site.section, site.env, frames) {
+        Instruction::ReceiveUntil(time) => match make_frame(
+            heap,
+            UNTIL_FRAME,
+            expression,
+            site.section,
+            site.env,
+            frames,
+        ) {
             Ok(waits) => Ok(Outcome::GoesOn(Control::Eval(time, site), waits)),
             Err(Full) => Err(Refusal::Full),
         },
@@ -86,7 +112,16 @@ pub fn operands(
     ensures sim { λ r. ⌜ OperandsSim (program .entry .code .now) (program .entry .functions .now) (stored (now (heap .entry))) (stored (now (heap .exit))) (now (scratch .entry)) (me .0) chain «so_far» site frames r ⌝ }
 {
     if chain.kind != OPERAND {
-        return perform(program, heap, scratch, me, chain, so_far, site.section, frames);
+        return perform(
+            program,
+            heap,
+            scratch,
+            me,
+            chain,
+            so_far,
+            site.section,
+            frames,
+        );
     }
     let values = match heap.put(PART, site.env, so_far) {
         Ok(slot) => slot,
@@ -110,7 +145,14 @@ pub fn begin_body(
     ensures sim { λ r. ⌜ BeginSim (now (code .entry)) (stored (now (heap .entry))) (stored (now (heap .exit))) body site frames r ⌝ }
 {
     match read_body(code, body) {
-        Start::Statement(value) => match make_frame(heap, BIND_FRAME, body, site.section, site.env, frames) {
+        Start::Statement(value) => match make_frame(
+            heap,
+            BIND_FRAME,
+            body,
+            site.section,
+            site.env,
+            frames,
+        ) {
             Ok(waits) => Ok(Outcome::GoesOn(Control::Eval(value, site), waits)),
             Err(Full) => Err(Refusal::Full),
         },

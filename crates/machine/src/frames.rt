@@ -6,6 +6,7 @@ ghost use lib.ListN.{length};
 ghost use Rattle.std.specs.Results.{Cases};
 ghost use Rattle.store.specs.Heap.{stored};
 ghost use Rattle.machine.specs.Frames.{frame-at, placed-at, Framing, Grows};
+use crate::state::Site;
 use code::CASE;
 use code::OPERAND;
 use code::STATEMENT;
@@ -13,7 +14,6 @@ use code::UNTIL;
 use store::Full;
 use store::Heap;
 use store::Slot;
-use crate::state::Site;
 
 /// The kinds of frames' nodes and of their parts.
 pub const PLACE: u32 = 5;

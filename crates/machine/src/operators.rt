@@ -3,6 +3,13 @@
 ghost use mathlib.Core.Path.{_≡_};
 ghost use Rattle.store.specs.Heap.{stored};
 ghost use Rattle.machine.specs.Operators.{AsNumber, Calculates, Compared, Divides, Numbers, OperateSim, SameSim, Truly, whole-number};
+use crate::atoms::BIG;
+use crate::atoms::FALSE;
+use crate::atoms::TRUE;
+use crate::atoms::TYPE;
+use crate::atoms::ZERO;
+use crate::state::Control;
+use crate::state::Refusal;
 use code::Operator;
 use numbers::Division;
 use numbers::add;
@@ -18,16 +25,14 @@ use store::Heap;
 use store::Slot;
 use values::Value;
 use values::same_value;
-use crate::atoms::BIG;
-use crate::atoms::FALSE;
-use crate::atoms::TRUE;
-use crate::atoms::TYPE;
-use crate::atoms::ZERO;
-use crate::state::Control;
-use crate::state::Refusal;
 
 /// What an operator leads to on its operands, of which the last one comes first.
-pub fn operate(heap: &Heap<'_>, operator: Operator, operands: Slot, scratch: &mut [u32]) -> Result<Control, Refusal>
+pub fn operate(
+    heap: &Heap<'_>,
+    operator: Operator,
+    operands: Slot,
+    scratch: &mut [u32],
+) -> Result<Control, Refusal>
     ensures { λ r. ⌜ OperateSim (stored (now (heap .entry))) (now (scratch .entry)) operator operands r ⌝ }
 {
     let second = heap.left(operands);
@@ -58,7 +63,13 @@ fn whole(value: Option<Value>) -> Option<i64>
 }
 
 /// An operator on two values that are not both numbers.
-fn compare(heap: &Heap<'_>, operator: Operator, first: Slot, second: Slot, scratch: &mut [u32]) -> Result<Control, Refusal>
+fn compare(
+    heap: &Heap<'_>,
+    operator: Operator,
+    first: Slot,
+    second: Slot,
+    scratch: &mut [u32],
+) -> Result<Control, Refusal>
     ensures { λ r. ⌜ Compared (stored (now (heap .entry))) (now (scratch .entry)) operator first second r ⌝ }
 {
     match operator {
@@ -123,5 +134,9 @@ fn quotient(result: Division) -> Control
 fn truth(answer: bool) -> Control
     ensures { λ r. ⌜ Truly answer r ⌝ }
 {
-    if answer { Control::Give(TRUE) } else { Control::Give(FALSE) }
+    if answer {
+        Control::Give(TRUE)
+    } else {
+        Control::Give(FALSE)
+    }
 }

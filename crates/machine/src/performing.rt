@@ -7,6 +7,12 @@ ghost use Rattle.store.specs.Heap.{stored};
 ghost use Rattle.machine.specs.Frames.{Grows};
 ghost use Rattle.machine.specs.Operators.{Paired};
 ghost use Rattle.machine.specs.Performing.{AskSim, EnterSim, PerformSim, Tupled, Untupled};
+use crate::atoms::UNDEF;
+use crate::operators::operate;
+use crate::state::Control;
+use crate::state::Outcome;
+use crate::state::Refusal;
+use crate::state::Site;
 use code::Builtin;
 use code::Operation;
 use code::Program;
@@ -22,12 +28,6 @@ use values::PAIR;
 use values::TUPLE;
 use values::Value;
 use values::WorkerId;
-use crate::atoms::UNDEF;
-use crate::operators::operate;
-use crate::state::Control;
-use crate::state::Outcome;
-use crate::state::Refusal;
-use crate::state::Site;
 
 /// What an operation leads to; refuses where the heap has not a cell for each operand and one more, or where the first of two
 /// operands to compare is too large for the scratch words.
@@ -53,11 +53,23 @@ pub fn perform(
             Ok(pair) => Ok(Outcome::GoesOn(Control::Give(pair), frames)),
             Err(Full) => Err(Refusal::Full),
         },
-        Operation::Call(name, count) => match enter_function(program, section, name, count, operands) {
+        Operation::Call(name, count) => match enter_function(
+            program,
+            section,
+            name,
+            count,
+            operands,
+        ) {
             Some(body) => Ok(Outcome::GoesOn(body, frames)),
             None => Ok(Outcome::GoesOn(Control::Fail(UNDEF), frames)),
         },
-        Operation::Spawn(name, count) => match enter_function(program, section, name, count, operands) {
+        Operation::Spawn(name, count) => match enter_function(
+            program,
+            section,
+            name,
+            count,
+            operands,
+        ) {
             Some(body) => Ok(Outcome::Spawns(body, frames)),
             None => Ok(Outcome::GoesOn(Control::Fail(UNDEF), frames)),
         },
@@ -114,7 +126,13 @@ fn make_pair(heap: &mut Heap<'_>, operands: Slot) -> Result<Slot, Full>
 }
 
 /// The body of a function of the section at work, if it has one of that name and count; the operands are its environment.
-fn enter_function(program: Program<'_>, section: u32, name: Atom, count: u32, operands: Slot) -> Option<Control>
+fn enter_function(
+    program: Program<'_>,
+    section: u32,
+    name: Atom,
+    count: u32,
+    operands: Slot,
+) -> Option<Control>
     ensures { λ r. ⌜ EnterSim (program .entry .code .now) (program .entry .functions .now) section (name .0) count operands r ⌝ }
 {
     match find_function(program, section, name, count) {

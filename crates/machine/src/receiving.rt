@@ -3,6 +3,8 @@
 ghost use Rattle.store.specs.Heap.{stored};
 ghost use Rattle.machine.specs.Frames.{Grows};
 ghost use Rattle.machine.specs.Receiving.{TakeSim};
+use crate::state::Control;
+use crate::state::Site;
 use matching::Mailbox;
 use matching::Taken;
 use matching::take_first;
@@ -11,8 +13,6 @@ use store::Heap;
 use store::Slot;
 use store::left;
 use store::right;
-use crate::state::Control;
-use crate::state::Site;
 
 /// What a worker that waits comes to.
 #[derive(Clone, Copy)]

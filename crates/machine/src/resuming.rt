@@ -4,13 +4,6 @@ ghost use Rattle.store.specs.Heap.{stored};
 ghost use Rattle.machine.specs.Frames.{Grows};
 ghost use Rattle.machine.specs.Resuming.{OperandSim, TimeSim};
 ghost use Rattle.machine.specs.Turning.{ResumeSim};
-use code::Program;
-use code::VALUES;
-use store::Full;
-use store::Heap;
-use store::Slot;
-use store::right;
-use values::WorkerId;
 use crate::atoms::NORMAL;
 use crate::atoms::OK;
 use crate::atoms::TYPE;
@@ -25,6 +18,13 @@ use crate::state::Outcome;
 use crate::state::Refusal;
 use crate::state::Site;
 use crate::unwinding::tag;
+use code::Program;
+use code::VALUES;
+use store::Full;
+use store::Heap;
+use store::Slot;
+use store::right;
+use values::WorkerId;
 
 /// A value comes back to the innermost frame; with no frame left the worker ends.
 pub fn resume(
@@ -40,10 +40,34 @@ pub fn resume(
 {
     match read_frame(heap, frames) {
         Frame::Operands(operand, site, so_far, below) => {
-            add_operand(program, heap, scratch, me, value, operand, site, so_far, below)
+            add_operand(
+                program,
+                heap,
+                scratch,
+                me,
+                value,
+                operand,
+                site,
+                so_far,
+                below,
+            )
         }
-        Frame::Bind(statement, site, below) => bind(program.code, heap, value, statement, site, below),
-        Frame::Case(case, site, below) => choose_clause(program.code, heap, value, case, site, below),
+        Frame::Bind(statement, site, below) => bind(
+            program.code,
+            heap,
+            value,
+            statement,
+            site,
+            below,
+        ),
+        Frame::Case(case, site, below) => choose_clause(
+            program.code,
+            heap,
+            value,
+            case,
+            site,
+            below,
+        ),
         Frame::Until(receive, site, below) => Ok(wait_for(value, receive, site, below)),
         Frame::Catch(below) => match tag(heap, OK, value) {
             Ok(pair) => Ok(Outcome::GoesOn(Control::Give(pair), below)),

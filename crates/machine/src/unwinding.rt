@@ -7,17 +7,17 @@ ghost use Rattle.std.specs.Results.{Cases};
 ghost use Rattle.store.specs.Heap.{stored};
 ghost use Rattle.machine.specs.Frames.{Grows};
 ghost use Rattle.machine.specs.Steps.{Tagged, UnwindSim};
-use store::Full;
-use store::Heap;
-use store::Slot;
-use values::EMPTY_TUPLE;
-use values::TUPLE;
 use crate::atoms::ERROR;
 use crate::frames::Frame;
 use crate::frames::read_frame;
 use crate::state::Control;
 use crate::state::Outcome;
 use crate::state::Refusal;
+use store::Full;
+use store::Heap;
+use store::Slot;
+use values::EMPTY_TUPLE;
+use values::TUPLE;
 
 /// An error goes outward by one frame, to the catch that gives it, or to the worker's end.
 pub fn unwind(heap: &mut Heap<'_>, reason: Slot, frames: Slot) -> Result<Outcome, Refusal>
