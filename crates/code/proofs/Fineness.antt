@@ -4,7 +4,7 @@
 use mathlib.Core.Path.{_≡_, refl, sym, ap, subst, _∙_}
 use mathlib.Core.Logic.{_⊎_, inl, inr}
 use mathlib.Core.Bool.{Bool, true, false, _&&_, _||_, not, cond}
-use mathlib.Core.List.{List, [], _∷_, _++_, reverse, reverse-cons}
+use mathlib.Core.List.{List, [], _∷_, _++_, reverse, reverse-cons, reverseAux}
 use mathlib.Core.Option.{some, none}
 use Prim.Native.Nat.{ℕ, zero, suc, _+_, _-_, _*_, _^_, _≤_, _<_}
 use native.Mathlib.Nat.{mul-le-mul-left, mul-le-mul-right, mul-assoc, mul-one}
@@ -664,8 +664,15 @@ module _ (ns : List Name) where
       functions-fine xs (given-front s u b) (a .0) n (definitions (suc n) ms)
       (modules-fine y (given-back s u b) (a .1) (suc n))
 
+-- in any order
+fine-onto : (ns : List Name) (ds es : List Definition) → Fine-definitions ns ds → Fine-definitions ns es →
+    Fine-definitions ns (reverseAux ds es)
+fine-onto ns [] es f h = h
+fine-onto ns (d ∷ ds) es f h = fine-onto ns ds (d ∷ es) (f .1) (f .0, h)
+
 pub reads-fine : Reads-fine
 reads-fine ns t g r k =
     let a = and-T (leb (length t) 32768) (shallow 0 (tokens gap t)) (r .small) in
-    modules-fine ns (r .said) (record { knows = k; open-before = 0; few = a .1 })
-    (and-T (has-main g) (sound-modules g) (r .sound) .1) 0
+    fine-onto ns (definitions 0 g) []
+    (modules-fine ns (r .said) (record { knows = k; open-before = 0; few = a .1 })
+    (and-T (has-main g) (sound-modules g) (r .sound) .1) 0) tt

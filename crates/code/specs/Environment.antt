@@ -3,15 +3,15 @@
 -- as every name is found with the same value.
 use mathlib.Core.Path.{_≡_}
 use mathlib.Core.List.{List, [], _∷_}
-use mathlib.Core.Option.{Option}
+use mathlib.Core.Option.{Option, some}
 use Prim.Native.Nat.{ℕ}
 use lib.ListN.{length}
 use Rattle.meaning.specs.Basics.{Name}
 use Rattle.meaning.specs.Space.{size-values, size-bindings}
 use Rattle.meaning.specs.Values.{Value, Binding, look-up}
-use Rattle.store.specs.Heap.{Store, Den}
+use Rattle.store.specs.Heap.{Store, storeOf, Den}
 use Rattle.store.specs.declared.slot.Slot.{Slot}
-use Rattle.values.specs.Encoding.{Fine}
+use Rattle.values.specs.Encoding.{indexOf, Known, Fine, Holds}
 use Rattle.values.specs.Space.{chain}
 use Rattle.code.specs.Trees.{nothing}
 
@@ -45,3 +45,7 @@ pub record Environment (ns : List Name) (m : Store) (s : Slot) (sc : List Name) 
   pub values : List Value
   pub holds : Chain ns m s values
   pub binds : Binds sc values bs
+
+-- in every environment that stands at env, the slot r holds the value of the name of index i
+pub record LooksUp (words : List ℕ) (env : Slot) (i : ℕ) (r : Slot) : Type 0 where
+  pub is : {ns : List Name} {used : ℕ} {sc : List Name} {bs : List Binding} (y : Name) → Environment ns (storeOf words used) env sc bs → Known sc y → i ≡ indexOf sc y → (v : Value) × (look-up bs y ≡ some v) × Holds ns (storeOf words used) r v

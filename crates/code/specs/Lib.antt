@@ -5,5 +5,8 @@ pub mod Fine
 pub mod Program
 pub mod Environment
 pub mod Code
+pub mod Instruction
+pub mod Operation
+pub mod Function
 pub mod Clauses
 pub mod Reading

@@ -1,11 +1,12 @@
 -- A program in cells: a table of names by number, and for each name the functions that have it, in all sections.
 use mathlib.Core.Path.{_≡_}
-use mathlib.Core.Bool.{Bool, cond}
+use mathlib.Core.Bool.{Bool, true, cond}
 use mathlib.Core.List.{List, [], _∷_, _++_, reverse}
 use mathlib.Core.Option.{Option, some, none}
 use Prim.Native.Nat.{ℕ, zero, suc, _+_, _-_, _<_, _≤_}
 use lib.ListN.{length, take, drop}
 use Rattle.meaning.specs.Basics.{Name, same}
+use Rattle.meaning.specs.Bound.{sound-modules}
 use Rattle.meaning.specs.Syntax.{Body, Function, Module, Program}
 use Rattle.store.specs.Tree.{Tree, leaf, node}
 use Rattle.store.specs.Heap.{Store, Den}
@@ -61,9 +62,14 @@ abbrev pub Fine-definitions : List Name → List Definition → Type 0
 Fine-definitions ns [] = Unit {0}
 Fine-definitions ns (d ∷ ds) = FineB ns (scope-of (d .function)) (d .function .body) × Fine-definitions ns ds
 
+-- all functions of a program, the newest first
+abbrev pub newest-first : Program → List Definition
+newest-first g = reverse (definitions 0 g)
+
 -- the program g stands in the code's cells: slot i of the table `functions` denotes the chain of the functions whose name
--- has the number i, the newest first
+-- has the number i, the newest first; names differ where the language wants it, and the cells in use are there
 pub record Stands (ns : List Name) (code : Store) (functions : List ℕ) (g : Program) : Type 0 where
-  pub chains : (i : ℕ) (x : Name) → nth ns i ≡ some x →
-      Den code (slotAt functions i) (treeD ns x (reverse (definitions 0 g)))
-  pub fine : Fine-definitions ns (definitions 0 g)
+  pub chains : (i : ℕ) (x : Name) → nth ns i ≡ some x → Den code (slotAt functions i) (treeD ns x (newest-first g))
+  pub fine : Fine-definitions ns (newest-first g)
+  pub sound : sound-modules g ≡ true
+  pub within : code .used ≤ length (code .words)

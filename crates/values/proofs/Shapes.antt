@@ -50,7 +50,8 @@ partBy k s =
     (cond (eqb k 4) EmptyTuple
     (cond (eqb k 16) (Pair s) (Tuple s))))))
 
-sfits : (z : ℤ) → fits z ≡ true → SFits w64 z
+-- what fits 64 bits, as the machine says it
+pub sfits : (z : ℤ) → fits z ≡ true → SFits w64 z
 sfits (pos n) e = record { sfits = ltb-true n (2 ^ 63) e }
 sfits (negsuc n) e = record { sfits = ltb-true n (2 ^ 63) e }
 

@@ -1,0 +1,9 @@
+pub mod Standing
+pub mod Stepping
+pub mod Operating
+pub mod Performs
+pub mod Evaluating
+pub mod Resumes
+pub mod Binds
+pub mod Taking
+pub mod Awaiting
