@@ -30,7 +30,7 @@ use Rattle.store.specs.Tree.{cells}
 use Rattle.store.specs.declared.slot.Slot.{Slot}
 use Rattle.values.specs.Encoding.{treeV, Holds}
 use Rattle.values.specs.declared.value.Value.{Value as Part}
-use Rattle.values.specs.declared.value.Value.the-variants.{Number, Atom, Worker, Nil, EmptyTuple, Tuple, Pair}
+use Rattle.values.specs.declared.value.Value.the-variants.{Number, Atom, Worker, Nil, EmptyTuple, Tuple, Pair, Unknown}
 
 -- the worker goes on with r, whatever its frames and the system are
 pub record Leads (x : World) (m : Store) (r : Control) (f : List Frame → System → Means) : Type 0 where
@@ -51,15 +51,15 @@ pub record Truly (b : Bool) (r : Control) : Type 0 where
 pub record Calculates (o : Operator) (a b : ℤ) (r : Control) : Type 0 where
   pub to : (x : World) (m : Store) → Leads x m r (λ k s. operate-on k s (operator-of o) (v-int a) (v-int b))
 
-abbrev pub whole-number : Option Part → Option ℤ
-whole-number None = None
-whole-number (Some (Number n)) = Some n
-whole-number (Some (Atom a)) = None
-whole-number (Some (Worker w)) = None
-whole-number (Some Nil) = None
-whole-number (Some EmptyTuple) = None
-whole-number (Some (Tuple s)) = None
-whole-number (Some (Pair s)) = None
+abbrev pub whole-number : Part → Option ℤ
+whole-number (Number n) = Some n
+whole-number (Atom a) = None
+whole-number (Worker w) = None
+whole-number Nil = None
+whole-number EmptyTuple = None
+whole-number (Tuple s) = None
+whole-number (Pair s) = None
+whole-number (Unknown s) = None
 
 -- v is the number, or none
 abbrev pub IsNumber : Option ℤ → Value → Type 0

@@ -53,11 +53,11 @@ pub fn as_number(slot: Slot) -> Option<i64>
     whole(Value::from_slot(slot))
 }
 
-fn whole(value: Option<Value>) -> Option<i64>
+fn whole(value: Value) -> Option<i64>
     ensures { λ r. ⌜ r ≡ whole-number value ⌝ }
 {
     match value {
-        Some(Value::Number(n)) => Some(n),
+        Value::Number(n) => Some(n),
         _ => None,
     }
 }
