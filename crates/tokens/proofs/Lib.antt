@@ -1,0 +1,4 @@
+pub mod Reading
+pub mod Cutting
+pub mod Skipping
+pub mod Placing

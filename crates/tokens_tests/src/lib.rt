@@ -1,0 +1,4 @@
+//! Small texts and their tokens.
+
+#[cfg(test)]
+mod tests;
