@@ -1,0 +1,12 @@
+//! The table of names of a text: each name and each atom stands by a number.
+
+mod hash;
+mod laws;
+mod own;
+mod words;
+
+pub use laws::index_below;
+pub use laws::names_stand;
+pub use own::own_atom;
+pub use words::is_atom;
+pub use words::is_name;
