@@ -1,3 +1,5 @@
 pub mod Keywords
 pub mod Counting
 pub mod Naming
+pub mod Looking
+pub mod Spelling

@@ -35,6 +35,12 @@ known-from-listed [] w e = absurd (false≢true e)
 known-from-listed (y ∷ ys) w e =
     elim (or-cases (same w y) (listed w ys) e) [ inl s ↦ inl (same-sym w y s) | inr l ↦ inr (known-from-listed ys w l) ]
 
+pub known-or-not : (ns : List Name) (w : Name) → Known ns w ⊎ (Known ns w → ⊥)
+known-or-not ns w = elim (cases-bool (listed w ns)) [
+    | inl l ↦ inl (known-from-listed ns w l)
+    | inr l ↦ inr (λ k. both-ways (listed w ns) l (listed-from-known ns w k))
+  ]
+
 pub known-later : (y : Name) (ys : List Name) (w : Name) → same y w ≡ false → Known (y ∷ ys) w → Known ys w
 known-later y ys w n (inl e) = absurd (both-ways (same y w) n e)
 known-later y ys w n (inr k) = k

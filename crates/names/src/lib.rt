@@ -2,11 +2,15 @@
 
 mod hash;
 mod laws;
+mod lookup;
 mod own;
+mod table;
 mod words;
 
 pub use laws::index_below;
 pub use laws::names_stand;
+pub use lookup::number_of;
 pub use own::own_atom;
+pub use table::name_bytes;
 pub use words::is_atom;
 pub use words::is_name;
