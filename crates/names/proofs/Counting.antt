@@ -19,7 +19,7 @@ abbrev pub atoms-in : List Name → ℕ
 atoms-in [] = 0
 atoms-in (w ∷ ws) = cond (is-atom w) 1 0 + atoms-in ws
 
-no-atom : (c : ℕ) (cs : Name) → is-letter c ≡ false → is-atom (c ∷ cs) ≡ false
+pub no-atom : (c : ℕ) (cs : Name) → is-letter c ≡ false → is-atom (c ∷ cs) ≡ false
 no-atom c cs n =
     and-right (leb 1 (length (c ∷ cs))) _ (and-right (leb (length (c ∷ cs)) 32) _
     (and-left (all-letters (c ∷ cs)) (not (digit-first (c ∷ cs))) (and-left (is-letter c) (all-letters cs) n)))

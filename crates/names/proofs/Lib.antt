@@ -3,3 +3,4 @@ pub mod Counting
 pub mod Naming
 pub mod Looking
 pub mod Spelling
+pub mod Entering

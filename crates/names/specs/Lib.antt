@@ -3,3 +3,4 @@
 pub mod Names
 pub mod Buckets
 pub mod Table
+pub mod Collect

@@ -1,5 +1,6 @@
 //! The table of names of a text: each name and each atom stands by a number.
 
+mod collect;
 mod hash;
 mod laws;
 mod lookup;
@@ -7,6 +8,7 @@ mod own;
 mod table;
 mod words;
 
+pub use collect::collect_names;
 pub use laws::index_below;
 pub use laws::names_stand;
 pub use lookup::number_of;
