@@ -70,21 +70,21 @@ module _ (c : ℕ) (t : List ℕ) (few : Few t) where
 
   word-any : (w : Name) → 2 * atoms-in (tokens (word w) (c ∷ t)) ≤ 2 + length (c ∷ t)
   word-any w = elim (cases-bool (is-letter c)) [
-      | inl l ↦ omega (arith, ap atoms-in (word-more w c t l), few .in-word (w ++ (c ∷ [])))
-      | inr n ↦ omega (arith, ap atoms-in (word-ends w c t n), at-most-one w (tokens gap (c ∷ t)), gap-no-letter n)
-    ]
+    | inl l ↦ omega (arith, ap atoms-in (word-more w c t l), few .in-word (w ++ (c ∷ [])))
+    | inr n ↦ omega (arith, ap atoms-in (word-ends w c t n), at-most-one w (tokens gap (c ∷ t)), gap-no-letter n)
+  ]
 
   sign-any : (d : ℕ) → is-letter d ≡ false → 2 * atoms-in (tokens (sign d) (c ∷ t)) ≤ 1 + length (c ∷ t)
   sign-any d n = elim (cases-bool (joins d c)) [
-      | inl j ↦ omega (arith, ap atoms-in (sign-joins d c t j), passes-no-atom d (c ∷ []) (tokens gap t) n, few .in-gap)
-      | inr j ↦ omega (arith, ap atoms-in (sign-alone d c t j), passes-no-atom d [] (tokens gap (c ∷ t)) n, gap-any)
-    ]
+    | inl j ↦ omega (arith, ap atoms-in (sign-joins d c t j), passes-no-atom d (c ∷ []) (tokens gap t) n, few .in-gap)
+    | inr j ↦ omega (arith, ap atoms-in (sign-alone d c t j), passes-no-atom d [] (tokens gap (c ∷ t)) n, gap-any)
+  ]
 
   comment-any : 2 * atoms-in (tokens comment (c ∷ t)) ≤ 1 + length (c ∷ t)
   comment-any = elim (cases-bool (eqb c 10)) [
-      | inl e ↦ omega (arith, ap atoms-in (comment-ends c e t), few .in-gap)
-      | inr e ↦ omega (arith, ap atoms-in (comment-skips c e t), few .in-comment)
-    ]
+    | inl e ↦ omega (arith, ap atoms-in (comment-ends c e t), few .in-gap)
+    | inr e ↦ omega (arith, ap atoms-in (comment-skips c e t), few .in-comment)
+  ]
 
   few-more : Few (c ∷ t)
   few-more = record { in-gap = gap-any; in-word = word-any; in-sign = sign-any; in-comment = comment-any }

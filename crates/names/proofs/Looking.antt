@@ -150,9 +150,9 @@ some-one {a} {b} p = let q : a ≡ b = cc in ap (λ (x : Atom). x .0) q
 pub bucket-numbers : (ns : List Name) (w : Name) (r : Option Atom) → Distinct ns → r ≡ first-of ns w (bucket (hashOf w) ns) → Numbered ns w r
 bucket-numbers ns w None d e = λ k. none-is-some (e ∙ first-known ns w 0 ns [] (from-start ns) d k)
 bucket-numbers ns w (Some a) d e = elim (known-or-not ns w) [
-    | inl k ↦ (k, some-one (e ∙ first-known ns w 0 ns [] (from-start ns) d k) ∙ zero-add (indexOf ns w))
-    | inr n ↦ absurd (none-is-some (sym (e ∙ first-unknown ns w (hashOf w) 0 ns [] (from-start ns) n)))
-  ]
+  | inl k ↦ (k, some-one (e ∙ first-known ns w 0 ns [] (from-start ns) d k) ∙ zero-add (indexOf ns w))
+  | inr n ↦ absurd (none-is-some (sym (e ∙ first-unknown ns w (hashOf w) 0 ns [] (from-start ns) n)))
+]
 
 -- so the walk along the word's bucket finds its number
 pub bucket-found : {text spans : List ℕ} {count : ℕ} {buckets : List ℕ} {m : Store} {w : Name} {r : Option Atom} (b : ℕ) (head : Slot)

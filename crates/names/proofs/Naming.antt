@@ -37,9 +37,9 @@ known-from-listed (y ∷ ys) w e =
 
 pub known-or-not : (ns : List Name) (w : Name) → Known ns w ⊎ (Known ns w → ⊥)
 known-or-not ns w = elim (cases-bool (listed w ns)) [
-    | inl l ↦ inl (known-from-listed ns w l)
-    | inr l ↦ inr (λ k. both-ways (listed w ns) l (listed-from-known ns w k))
-  ]
+  | inl l ↦ inl (known-from-listed ns w l)
+  | inr l ↦ inr (λ k. both-ways (listed w ns) l (listed-from-known ns w k))
+]
 
 pub known-later : (y : Name) (ys : List Name) (w : Name) → same y w ≡ false → Known (y ∷ ys) w → Known ys w
 known-later y ys w n (inl e) = absurd (both-ways (same y w) n e)
@@ -49,9 +49,9 @@ known-later y ys w n (inr k) = k
 pub index-below : (ns : List Name) (w : Name) → Known ns w → indexOf ns w < length ns
 index-below [] w k = absurd k
 index-below (y ∷ ys) w k = elim (cases-bool (same y w)) [
-    | inl e ↦ omega (arith, cond-true (same y w) 0 (suc (indexOf ys w)) e)
-    | inr n ↦ omega (arith, cond-false (same y w) 0 (suc (indexOf ys w)) n, index-below ys w (known-later y ys w n k))
-  ]
+  | inl e ↦ omega (arith, cond-true (same y w) 0 (suc (indexOf ys w)) e)
+  | inr n ↦ omega (arith, cond-false (same y w) 0 (suc (indexOf ys w)) n, index-below ys w (known-later y ys w n k))
+]
 
 -- a table that grows at its end
 pub known-left : (xs ys : List Name) (w : Name) → Known xs w → Known (xs ++ ys) w
@@ -118,9 +118,9 @@ pub record Grown (ns ms : List Name) : Type 0 where
 
 grown-word : (ns : List Name) (w : Name) → Grown ns (with-word ns w)
 grown-word ns w = elim (with-word-is ns w) [
-    | inl a ↦ record { more = w ∷ []; is = a .is }
-    | inr l ↦ record { more = []; is = l .is ∙ sym (append-nil ns) }
-  ]
+  | inl a ↦ record { more = w ∷ []; is = a .is }
+  | inr l ↦ record { more = []; is = l .is ∙ sym (append-nil ns) }
+]
 
 pub grown-words : (ns ws : List Name) → Grown ns (with-words ns ws)
 grown-words ns [] = record { more = []; is = sym (append-nil ns) }
@@ -137,9 +137,9 @@ grown-known {ns} {ms} w g k = subst (λ l. Known l w) (sym (g .is)) (known-left 
 
 distinct-word : (ns : List Name) (w : Name) → Distinct ns → Distinct (with-word ns w)
 distinct-word ns w d = elim (with-word-is ns w) [
-    | inl a ↦ subst Distinct (sym (a .is)) (distinct-push ns w d (a .new))
-    | inr l ↦ subst Distinct (sym (l .is)) d
-  ]
+  | inl a ↦ subst Distinct (sym (a .is)) (distinct-push ns w d (a .new))
+  | inr l ↦ subst Distinct (sym (l .is)) d
+]
 
 pub distinct-words : (ns ws : List Name) → Distinct ns → Distinct (with-words ns ws)
 distinct-words ns [] d = d
@@ -147,9 +147,9 @@ distinct-words ns (w ∷ ws) d = distinct-words (with-word ns w) ws (distinct-wo
 
 known-word : (ns : List Name) (w : Name) → T (is-atom w) → Known (with-word ns w) w
 known-word ns w t = elim (with-word-is ns w) [
-    | inl a ↦ subst (λ l. Known l w) (sym (a .is)) (known-last ns w)
-    | inr l ↦ subst (λ l. Known l w) (sym (l .is)) (l .known t)
-  ]
+  | inl a ↦ subst (λ l. Known l w) (sym (a .is)) (known-last ns w)
+  | inr l ↦ subst (λ l. Known l w) (sym (l .is)) (l .known t)
+]
 
 pub knows-words : (ns ws : List Name) → Knows (with-words ns ws) ws
 knows-words ns [] = tt
@@ -161,9 +161,9 @@ knows-words ns (w ∷ ws) = (
 -- how many there are
 length-word : (ns : List Name) (w : Name) → length (with-word ns w) ≤ length ns + cond (is-atom w) 1 0
 length-word ns w = elim (with-word-is ns w) [
-    | inl a ↦ omega (arith, ap length (a .is), length-append ns (w ∷ []), ap {B = ℕ} (λ b. cond b 1 0) (a .atom))
-    | inr l ↦ omega (arith, ap length (l .is))
-  ]
+  | inl a ↦ omega (arith, ap length (a .is), length-append ns (w ∷ []), ap {B = ℕ} (λ b. cond b 1 0) (a .atom))
+  | inr l ↦ omega (arith, ap length (l .is))
+]
 
 pub length-words : (ns ws : List Name) → length (with-words ns ws) ≤ length ns + atoms-in ws
 length-words ns [] = omega arith
@@ -195,9 +195,22 @@ own-numbers : (more : List Name) → OwnNumbers (own-atoms ++ more)
 unfolding own-atoms
 own-numbers more =
     record {
-      type-is = refl; match-is = refl; clause-is = refl; zero-is = refl; big-is = refl; undef-is = refl; normal-is = refl;
-      old-is = refl; gone-is = refl; ok-is = refl; error-is = refl; exit-is = refl; none-is = refl; true-is = refl;
-      false-is = refl; main-is = refl;
+      type-is = refl;
+      match-is = refl;
+      clause-is = refl;
+      zero-is = refl;
+      big-is = refl;
+      undef-is = refl;
+      normal-is = refl;
+      old-is = refl;
+      gone-is = refl;
+      ok-is = refl;
+      error-is = refl;
+      exit-is = refl;
+      none-is = refl;
+      true-is = refl;
+      false-is = refl;
+      main-is = refl;
     }
 
 all-known : (xs : List Name) → All (Known xs) xs

@@ -35,10 +35,10 @@ module _ (text spans : List ℕ) where
   pub table-at : (count i : ℕ) → i < count → getD (table text spans count) i [] ≡ spelled text i (slotAt spans i)
   table-at zero i h = absurd (omega arith)
   table-at (suc n) i h = elim (cases-lt i n) [
-      | inl l ↦ getD-append-left (table text spans n) (spelled text n (slotAt spans n) ∷ []) [] i (omega (arith, l, length-table n)) ∙ table-at n i l
-      | inr g ↦ let e : n ≡ i = omega arith in
-          getD-push (table text spans n) (spelled text n (slotAt spans n)) [] i (length-table n ∙ e) ∙ ap (λ k. spelled text k (slotAt spans k)) e
-    ]
+    | inl l ↦ getD-append-left (table text spans n) (spelled text n (slotAt spans n) ∷ []) [] i (omega (arith, l, length-table n)) ∙ table-at n i l
+    | inr g ↦ let e : n ≡ i = omega arith in
+        getD-push (table text spans n) (spelled text n (slotAt spans n)) [] i (length-table n ∙ e) ∙ ap (λ k. spelled text k (slotAt spans k)) e
+  ]
 
   pub table-past : (count i : ℕ) → count ≤ i → [] ≡ getD (table text spans count) i []
   table-past count i h = sym (getD-past (table text spans count) i [] (omega (arith, length-table count)))

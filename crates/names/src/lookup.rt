@@ -23,7 +23,14 @@ pub fn number_of(
 ) -> Option<Atom>
     ensures { λ r. ⌜ Finds (now (text .entry)) (now (spans .entry)) count (now (buckets .entry)) (stored (now (heap .entry))) (now (word .entry)) r ⌝ }
 {
-    walk(text, spans, count, heap, read_slot(buckets, hash(word)), word)
+    walk(
+        text,
+        spans,
+        count,
+        heap,
+        read_slot(buckets, hash(word)),
+        word,
+    )
 }
 
 /// The first number of the chain whose name is the word.

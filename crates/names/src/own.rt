@@ -10,8 +10,22 @@ pub const OWN_ATOMS: usize = 16;
 
 /// The atoms of the language, in the order of their numbers.
 const ATOMS: [&[u8]; 16] = [
-    b"type", b"match", b"clause", b"zero", b"big", b"undef", b"normal", b"old", b"gone", b"ok", b"error", b"exit",
-    b"none", b"true", b"false", b"main",
+    b"type",
+    b"match",
+    b"clause",
+    b"zero",
+    b"big",
+    b"undef",
+    b"normal",
+    b"old",
+    b"gone",
+    b"ok",
+    b"error",
+    b"exit",
+    b"none",
+    b"true",
+    b"false",
+    b"main",
 ];
 
 /// The atom of the language with that number, or no byte where there is none.

@@ -12,8 +12,23 @@ pub const LONGEST: usize = 32;
 
 /// The words that the language keeps for itself.
 const KEYWORDS: [&[u8]; 17] = [
-    b"module", b"fn", b"case", b"receive", b"until", b"catch", b"spawn", b"send", b"self", b"link", b"exit", b"trap",
-    b"show", b"name", b"where", b"swap", b"_",
+    b"module",
+    b"fn",
+    b"case",
+    b"receive",
+    b"until",
+    b"catch",
+    b"spawn",
+    b"send",
+    b"self",
+    b"link",
+    b"exit",
+    b"trap",
+    b"show",
+    b"name",
+    b"where",
+    b"swap",
+    b"_",
 ];
 
 /// Can the word be an atom: 1 to 32 letters, digits and `_`, no digit first?
@@ -46,11 +61,7 @@ fn is_keyword(word: &[u8]) -> bool
 fn keyword(number: usize) -> &'static [u8]
     ensures { λ r. ⌜ now r ≡ getD keywords number [] ⌝ }
 {
-    if number < 17 {
-        KEYWORDS[number]
-    } else {
-        b""
-    }
+    if number < 17 { KEYWORDS[number] } else { b"" }
 }
 
 /// Are two words the same?
@@ -76,7 +87,10 @@ fn all_letters(word: &[u8]) -> bool
 fn is_letter(byte: u8) -> bool
     ensures { λ r. ⌜ r ≡ is-letter byte ⌝ }
 {
-    (byte >= b'a' && byte <= b'z') || (byte >= b'A' && byte <= b'Z') || byte == b'_' || is_digit(byte)
+    (byte >= b'a' && byte <= b'z')
+        || (byte >= b'A' && byte <= b'Z')
+        || byte == b'_'
+        || is_digit(byte)
 }
 
 /// Is the byte a digit?
