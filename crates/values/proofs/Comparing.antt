@@ -75,7 +75,7 @@ index-split n ns x y rec false true p q k l e = absurd (omega arith)
 index-split n ns x y rec false false p q k l e = rec (later k) (later l) (omega arith)
 
 -- names of one number are one name
-index-one : (ns : List Name) (x y : Name) → Known ns x → Known ns y → indexOf ns x ≡ indexOf ns y → x ≡ y
+pub index-one : (ns : List Name) (x y : Name) → Known ns x → Known ns y → indexOf ns x ≡ indexOf ns y → x ≡ y
 index-one [] x y p q e = absurd p
 index-one (n ∷ ns) x y p q e = index-split n ns x y (index-one ns x y) (same n x) (same n y) refl refl p q e
 

@@ -9,19 +9,17 @@ use lib.IntN.{ℤ, pos, negsuc}
 use borrow.Author.Tests.{ltb-true}
 use mir.Val.{SFits, toZ}
 use mir.Syntax.{w64}
-use Rattle.std.specs.declared.option.Option.{Option}
-use Rattle.std.specs.declared.option.Option.the-variants.{Some}
 use Rattle.std.proofs.shelf.Signed.{toZ-ofZ}
 use Rattle.meaning.specs.Basics.{Name}
 use Rattle.meaning.specs.Values.{Value as Val, v-int, v-atom, v-tuple, v-nil, v-cons, v-pid, no-v, and-v, fits}
-use Rattle.store.specs.Heap.{Kept, Store, Den}
+use Rattle.store.specs.Heap.{Store, Den}
 use Rattle.store.specs.Slots.{placeOf}
 use Rattle.store.specs.declared.slot.Slot.{Slot}
 use Rattle.values.specs.Encoding.{Holds, bits64, number}
-use Rattle.values.specs.Shape.{Seen}
+use Rattle.values.specs.Shape.{Shape}
 use Rattle.values.specs.declared.value.Value.{Value}
 use Rattle.values.specs.declared.value.Value.the-variants.{Number, Atom, Worker, Nil, EmptyTuple, Tuple, Pair}
-use Rattle.store.proofs.Laws.{leaf-is, node-is, node-left, node-right, keeps}
+use Rattle.store.proofs.Laws.{leaf-is, node-is, node-left, node-right}
 
 -- the kind of the slot that holds a value
 abbrev pub kindOf : Val → ℕ
@@ -42,19 +40,15 @@ kind-is v-nil h = ap (λ (q : Slot). q .kind) (leaf-is (h .stands))
 kind-is (v-cons a b) h = node-is (h .stands)
 kind-is (v-pid n) h = ap (λ (q : Slot). q .kind) (leaf-is (h .stands))
 
--- what was held is held
-pub holds-kept : {ns : List Name} {m m′ : Store} {s : Slot} {v : Val} → Kept m m′ → Holds ns m s v → Holds ns m′ s v
-holds-kept g h = record { fine = h .fine; stands = keeps g (h .stands) }
-
 -- the outermost part that a slot of kind k shows
-abbrev pub partBy : ℕ → Slot → Option Value
+abbrev pub partBy : ℕ → Slot → Value
 partBy k s =
-    cond (eqb k 0) (Some (Number (toZ w64 (placeOf s))))
-    (cond (eqb k 1) (Some (Atom (record { 0 = s .low })))
-    (cond (eqb k 2) (Some Nil)
-    (cond (eqb k 3) (Some (Worker (record { 0 = placeOf s })))
-    (cond (eqb k 4) (Some EmptyTuple)
-    (cond (eqb k 16) (Some (Pair s)) (Some (Tuple s)))))))
+    cond (eqb k 0) (Number (toZ w64 (placeOf s)))
+    (cond (eqb k 1) (Atom (record { 0 = s .low }))
+    (cond (eqb k 2) Nil
+    (cond (eqb k 3) (Worker (record { 0 = placeOf s }))
+    (cond (eqb k 4) EmptyTuple
+    (cond (eqb k 16) (Pair s) (Tuple s))))))
 
 sfits : (z : ℤ) → fits z ≡ true → SFits w64 z
 sfits (pos n) e = record { sfits = ltb-true n (2 ^ 63) e }
@@ -68,7 +62,8 @@ bits-back (negsuc n) e = toZ-ofZ w64 (negsuc n) (sfits (negsuc n) e)
 joined-is : {m : Store} {s : Slot} (k n : ℕ) → Den m s (number k n) → placeOf s ≡ n
 joined-is k n d = ap placeOf (leaf-is d) ∙ omega arith
 
-pub part-seen : {ns : List Name} {m : Store} {s : Slot} (v : Val) → Holds ns m s v → Seen ns m (partBy (kindOf v) s) v
+pub part-seen : {ns : List Name} {m : Store} {s : Slot} (v : Val) → Holds ns m s v →
+    Shape ns m (partBy (kindOf v) s) v
 part-seen {s} (v-int z) h = ap v-int (sym (ap (toZ w64) (joined-is 0 (bits64 z) (h .stands)) ∙ bits-back z (h .fine)))
 part-seen (v-atom x) h = record {
   name = x;
@@ -100,8 +95,8 @@ part-seen (v-pid n) h = ap v-pid (sym (joined-is 3 n (h .stands)))
 
 -- a slot of kind k shows this part
 pub seen-by : {ns : List Name} {m : Store} {s : Slot} {v : Val} (k : ℕ) → s .kind ≡ k → Holds ns m s v →
-    Seen ns m (partBy k s) v
-seen-by {ns} {m} {s} {v} k e h = subst (λ j. Seen ns m (partBy j s) v) (sym (kind-is v h) ∙ e) (part-seen v h)
+    Shape ns m (partBy k s) v
+seen-by {ns} {m} {s} {v} k e h = subst (λ j. Shape ns m (partBy j s) v) (sym (kind-is v h) ∙ e) (part-seen v h)
 
 -- and one of another kind holds no value
 pub no-kind : {ns : List Name} {m : Store} {s : Slot} (v : Val) → Holds ns m s v

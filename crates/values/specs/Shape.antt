@@ -2,15 +2,22 @@
 use mathlib.Core.Path.{_≡_}
 use mathlib.Core.List.{List}
 use Prim.Native.Nat.{ℕ}
-use Rattle.std.specs.declared.option.Option.{Option}
-use Rattle.std.specs.declared.option.Option.the-variants.{Some, None}
 use Rattle.meaning.specs.Basics.{Name}
 use Rattle.meaning.specs.Values.{Value as Val, v-int, v-atom, v-tuple, v-nil, v-cons, v-pid, Values, no-v, and-v}
 use Rattle.store.specs.Heap.{Store, leftOf, rightOf}
 use Rattle.store.specs.declared.slot.Slot.{Slot}
 use Rattle.values.specs.Encoding.{Fine, Holds, indexOf}
 use Rattle.values.specs.declared.value.Value.{Value}
-use Rattle.values.specs.declared.value.Value.the-variants.{Number, Atom, Worker, Nil, EmptyTuple, Tuple, Pair}
+use Rattle.values.specs.declared.value.Value.the-variants.{
+  Number,
+  Atom,
+  Worker,
+  Nil,
+  EmptyTuple,
+  Tuple,
+  Pair,
+  Unknown,
+}
 
 -- v is a pair, and the cell that s refers to holds its head and its tail
 pub record IsPair (ns : List Name) (m : Store) (s : Slot) (v : Val) : Type 0 where
@@ -44,15 +51,11 @@ Shape ns m Nil v = v ≡ v-nil
 Shape ns m EmptyTuple v = v ≡ v-tuple no-v
 Shape ns m (Tuple s) v = IsTuple ns m s v
 Shape ns m (Pair s) v = IsPair ns m s v
+Shape ns m (Unknown s) v = ⊥
 
--- a slot of which nothing is seen holds no value
-abbrev pub Seen : List Name → Store → Option Value → Val → Type 0
-Seen ns m None v = ⊥
-Seen ns m (Some x) v = Shape ns m x v
-
--- r is what is to be seen of the slot s, whatever it holds
-pub record Views (s : Slot) (r : Option Value) : Type 0 where
-  pub value : {ns : List Name} {m : Store} {v : Val} → Holds ns m s v → Seen ns m r v
+-- x is the outermost part of whatever the slot s holds
+pub record Views (s : Slot) (x : Value) : Type 0 where
+  pub value : {ns : List Name} {m : Store} {v : Val} → Holds ns m s v → Shape ns m x v
 
 -- the slot r holds each value of which x is the outermost part
 pub record Stands (x : Value) (r : Slot) : Type 0 where

@@ -1,6 +1,6 @@
 use mathlib.Core.Path.{_∙_}
 use Rattle.values.proofs.Comparing.{value-same}
-use Rattle.values.proofs.equality.same_value.Needs as need
+use Rattle.values.proofs.comparer.same_value.Needs as need
 
 pub returns-in-Ok : need.returns-in-Ok
 returns-in-Ok c = record {

@@ -6,7 +6,7 @@ use store::Full;
 use store::Slot;
 use store::equal;
 
-/// Whether `a` and `b` hold the same value; refuses only where the first takes more cells than `scratch`, or than `budget`.
+/// Whether `a` and `b` hold the same value; refuses only where the first takes more cells than `scratch` or `budget`.
 pub fn same_value(
     words: &[u32],
     a: Slot,

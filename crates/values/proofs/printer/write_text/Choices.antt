@@ -1,0 +1,19 @@
+use mathlib.Core.List.{List}
+use Prim.Native.Nat.{ℕ, _+_, _-_, _*_, _≤_}
+use lib.ListN.{length}
+use Rattle.store.specs.Heap.{storeOf}
+use Rattle.values.specs.Print.{Writing}
+use Rattle.values.specs.Walk.{Remains, rank}
+use Rattle.values.proofs.printer.write_text.Given as given
+
+abbrev pub Inv-pieces : given.InvT-pieces
+Inv-pieces g l =
+    (l .end ≤ length (l .entry .out))
+    × ((used : ℕ) (text : List ℕ) (need : ℕ) →
+    Remains (g .N·Names .table (l .names)) (storeOf (l .words) used) (l .entry .scratch) (l .entry .cursor) text
+    need
+    → Writing (g .N·Names .table (l .names)) (storeOf (l .words) used) (l .scratch) (l .cursor) (l .entry .out)
+    (l .out) (l .at) (l .end) text need)
+
+abbrev pub μ-pieces : given.MeasureT-pieces
+μ-pieces g l = 2 * (length (l .entry .out) - l .end) + rank (l .cursor .next)
