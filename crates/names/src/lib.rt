@@ -13,6 +13,8 @@ pub use laws::index_below;
 pub use laws::names_stand;
 pub use lookup::number_of;
 pub use own::own_atom;
+pub use table::NameTable;
+pub use table::NameTableNames;
 pub use table::name_bytes;
 pub use words::is_atom;
 pub use words::is_name;

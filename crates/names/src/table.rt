@@ -10,6 +10,23 @@ use crate::own::own_atom;
 use store::Slot;
 use store::read_slot;
 use values::Atom;
+use values::Names;
+
+/// The names of a text, as they are printed: the text, where each name stands in it, and how many there are.
+#[derive(Clone, Copy)]
+pub struct NameTable<'a> {
+    pub text: &'a [u8],
+    pub spans: &'a [u32],
+    pub count: usize,
+}
+
+pub impl Names for NameTable<'_> as NameTableNames {
+    ghost table = { λ t. table (t .text .now) (t .spans .now) (t .count) };
+
+    fn name(&self, atom: Atom) -> &[u8] {
+        name_bytes(self.text, self.spans, self.count, atom)
+    }
+}
 
 /// The bytes of the name of that number, or no byte where the table has fewer names.
 pub fn name_bytes<'a>(text: &'a [u8], spans: &[u32], count: usize, atom: Atom) -> &'a [u8]
