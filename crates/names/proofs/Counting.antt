@@ -54,7 +54,13 @@ module _ (c : ℕ) (t : List ℕ) (few : Few t) where
       way (inl p) q s = omega (arith, ap atoms-in (blank-skips c p t), few .in-gap)
       way (inr p) (inl q) s = omega (arith, ap atoms-in (comment-begins c p q t), few .in-comment)
       way (inr p) (inr q) (inl s) = omega (arith, ap atoms-in (sign-begins c t (begun p q) n s), few .in-sign c n)
-      way (inr p) (inr q) (inr s) = omega (arith, ap atoms-in (byte-alone c t (begun p q) n s), passes-no-atom c [] (tokens gap t) n, few .in-gap)
+      way (inr p) (inr q) (inr s) = omega (
+        arith,
+        ap atoms-in (byte-alone c t (begun p q) n s),
+        passes-no-atom c []
+            (tokens gap t) n,
+        few .in-gap,
+      )
 
   gap-letter : is-letter c ≡ true → 2 * atoms-in (tokens gap (c ∷ t)) ≤ 1 + length (c ∷ t)
   gap-letter l = way (cases-bool (is-blank c)) (cases-bool (eqb c 35))

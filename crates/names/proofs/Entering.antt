@@ -39,16 +39,20 @@ use Rattle.names.proofs.Counting.{no-atom}
 use Rattle.names.proofs.Naming.{distinct-push, own-distinct, own-length, added, left-known, left-no-atom, grown-words}
 use Rattle.names.proofs.Spelling.{length-table}
 
-pub table-long : {text spans : List ℕ} {count : ℕ} {buckets : List ℕ} {m : Store} {ns : List Name} → Table text spans count buckets m ns
+pub table-long : {text spans : List ℕ} {count : ℕ} {buckets : List ℕ} {m : Store} {ns : List Name}
+    → Table text spans count buckets m ns
     → length ns ≡ count
 table-long {text} {spans} {count} t = sym (ap length (t .names)) ∙ length-table text spans count
 
 -- more names and cells lack room all the more, in words that are as long
-pub lacking-more : (spans spans′ buckets buckets′ words words′ : List ℕ) (names cells names′ cells′ : ℕ) → length spans′ ≡ length spans
+pub lacking-more : (spans spans′ buckets buckets′ words words′ : List ℕ) (names cells names′ cells′ : ℕ)
+    → length spans′ ≡ length spans
     → length buckets′ ≡ length buckets → length words′ ≡ length words → names ≤ names′ → cells ≤ cells′
     → Lacking spans′ buckets′ words′ names cells → Lacking spans buckets words names′ cells′
-lacking-more spans spans′ buckets buckets′ words words′ names cells names′ cells′ p q r g h (inl s) = inl (omega (arith, s, g, p))
-lacking-more spans spans′ buckets buckets′ words words′ names cells names′ cells′ p q r g h (inr (inl b)) = inr (inl (omega (arith, b, q)))
+lacking-more spans spans′ buckets buckets′ words words′ names cells names′ cells′ p q r g h (inl s) = inl (omega
+    (arith, s, g, p))
+lacking-more spans spans′ buckets buckets′ words words′ names cells names′ cells′ p q r g h (inr (inl b)) = inr (inl
+    (omega (arith, b, q)))
 lacking-more spans spans′ buckets buckets′ words words′ names cells names′ cells′ p q r g h (inr (inr (inl w))) =
     inr (inr (inl (omega (arith, w, h, r))))
 lacking-more spans spans′ buckets buckets′ words words′ names cells names′ cells′ p q r g h (inr (inr (inr n))) =
@@ -59,14 +63,16 @@ pub table-kept : (text spans spans′ : List ℕ) (count : ℕ) → ((i : ℕ) �
     → table text spans′ count ≡ table text spans count
 table-kept text spans spans′ zero h = refl
 table-kept text spans spans′ (suc n) h =
-    ap (λ l. l ++ (spelled text n (slotAt spans′ n) ∷ [])) (table-kept text spans spans′ n (λ i l. h i (omega (arith, l))))
+    ap (λ l. l ++ (spelled text n (slotAt spans′ n) ∷ [])) (table-kept text spans spans′ n (λ i l. h i (omega
+    (arith, l))))
     ∙ ap (λ s. table text spans n ++ (spelled text n s ∷ [])) (h n (omega arith))
 
 pub table-more : (text spans spans′ : List ℕ) (count : ℕ) (span : Slot) → Wrote spans spans′ count span
     → table text spans′ (count + 1) ≡ table text spans count ++ (spelled text count span ∷ [])
 table-more text spans spans′ count span w =
     ap (table text spans′) (add-one count)
-    ∙ (ap (λ l. l ++ (spelled text count (slotAt spans′ count) ∷ [])) (table-kept text spans spans′ count (λ i l. w .other i (λ e. omega (arith, e, l))))
+    ∙ (ap (λ l. l ++ (spelled text count (slotAt spans′ count) ∷ [])) (table-kept text spans spans′ count
+    (λ i l. w .other i (λ e. omega (arith, e, l))))
     ∙ ap (λ s. table text spans count ++ (spelled text count s ∷ [])) (w .here))
 
 -- a name more at the end is a number more at the head of its bucket
@@ -105,8 +111,10 @@ module _ {spans spans′ : List ℕ} {count : ℕ} {buckets buckets′ : List �
           (subst (λ j. Den m′ (slotAt buckets′ j) (atoms (count ∷ bucket j ns))) is
           (subst (λ (q : Slot). Den m′ q (atoms (count ∷ bucket b ns))) (sym (hung .here)) here))
       way k h (inr e) =
-          let other : slotAt buckets′ k ≡ slotAt buckets k = hung .other k (λ p. eqb-false (hashOf w) k e (sym (p ∙ hash))) in
-          subst (λ is′. Den m′ (slotAt buckets′ k) (atoms is′)) (sym (bucket-push k 0 ns w [] ∙ cond-false (eqb (hashOf w) k) _ _ e))
+          let other : slotAt buckets′ k ≡ slotAt buckets k = hung .other k (λ p. eqb-false (hashOf w) k e (sym (p
+          ∙ hash))) in
+          subst (λ is′. Den m′ (slotAt buckets′ k) (atoms is′)) (sym (bucket-push k 0 ns w [] ∙ cond-false (eqb
+          (hashOf w) k) _ _ e))
           (subst (λ (q : Slot). Den m′ q (atoms (bucket k ns))) (sym other) (keeps (put .kept) (c .chain k h)))
 
   pub entered : count < 2 ^ 32 → Entered spans spans′ count buckets buckets′ m m′ span w
@@ -124,7 +132,8 @@ module _ {spans spans′ : List ℕ} {count : ℕ} {buckets buckets′ : List �
       }
 
 -- empty buckets
-pub cleared : (buckets : List ℕ) → ((b : ℕ) → b < 1024 → slotAt buckets b ≡ record { kind = 2; low = 0; high = 0 }) → Cleared buckets
+pub cleared : (buckets : List ℕ) → ((b : ℕ) → b < 1024 → slotAt buckets b ≡ record { kind = 2; low = 0; high = 0 })
+    → Cleared buckets
 cleared buckets h =
     record {
       empty = λ {m}. record {
@@ -145,11 +154,13 @@ distinct-at (x ∷ xs) (suc i) h d (inl e) =
     d .0 (subst (Known xs) (sym (same-is x (getD xs i []) (T-of e))) (known-at xs i (omega (arith, h))))
 distinct-at (x ∷ xs) (suc i) h d (inr k) = distinct-at xs i (omega (arith, h)) (d .1) k
 
-pub own-begins : {text spans buckets : List ℕ} {m : Store} → Chained buckets m [] → Table text spans 0 buckets m (take 0 own-atoms)
+pub own-begins : {text spans buckets : List ℕ} {m : Store} → Chained buckets m [] → Table text spans 0 buckets m
+    (take 0 own-atoms)
 own-begins c = record { names = refl; distinct = tt; chained = c }
 
 pub own-more : {text spans spans′ : List ℕ} {i : ℕ} {buckets buckets′ : List ℕ} {m m′ : Store} {span : Slot} {w : Name} → i < 16
-    → w ≡ getD own-atoms i [] → Entered spans spans′ i buckets buckets′ m m′ span w → Table text spans i buckets m (take i own-atoms)
+    → w ≡ getD own-atoms i [] → Entered spans spans′ i buckets buckets′ m m′ span w → Table text spans i buckets m
+    (take i own-atoms)
     → Table text spans′ (i + 1) buckets′ m′ (take (i + 1) own-atoms)
 own-more {text} {spans} {spans′} {i} {buckets} {buckets′} {m} {m′} {span} {w} below is e t =
     let within : i < length own-atoms = omega (arith, below, own-length) in
@@ -159,7 +170,8 @@ own-more {text} {spans} {spans′} {i} {buckets} {buckets′} {m} {m′} {span} 
     subst (λ l. Table text spans′ (i + 1) buckets′ m′ l) longer
     (e .stands t spells (λ k. distinct-at own-atoms i within own-distinct (subst (Known (take i own-atoms)) is k)))
 
-pub own-ends : {text spans : List ℕ} {i : ℕ} {buckets : List ℕ} {m : Store} → i ≡ 16 → Table text spans i buckets m (take i own-atoms)
+pub own-ends : {text spans : List ℕ} {i : ℕ} {buckets : List ℕ} {m : Store} → i ≡ 16 → Table text spans i buckets m
+    (take i own-atoms)
     → Table text spans 16 buckets m own-atoms
 own-ends {text} {spans} {i} {buckets} {m} is t =
     subst (λ l. Table text spans 16 buckets m l) (take-all 16 own-atoms (omega (arith, own-length)))
@@ -177,7 +189,8 @@ word-left {text} {spans} {count} {buckets} {m} left =
     }
 
 -- a word that is new
-module _ {text spans : List ℕ} {count : ℕ} {buckets : List ℕ} {m : Store} {w : Name} {r : Option Atom} (atom : is-atom w ≡ true)
+module _ {text spans : List ℕ} {count : ℕ} {buckets : List ℕ} {m : Store} {w : Name} {r : Option Atom}
+    (atom : is-atom w ≡ true)
     (found : Finds text spans count buckets m w r) (none : r ≡ None) where
   new-word : {ns : List Name} → Table text spans count buckets m ns → Known ns w → ⊥
   new-word {ns} t k = subst (Numbered ns w) none (found .number t) k
@@ -185,7 +198,8 @@ module _ {text spans : List ℕ} {count : ℕ} {buckets : List ℕ} {m : Store} 
   pub word-added : {ns : List Name} → Table text spans count buckets m ns → with-word ns w ≡ ns ++ (w ∷ [])
   word-added {ns} t = added ns w atom (new-word t) .is
 
-  pub word-entered : {spans′ buckets′ : List ℕ} {m′ : Store} {span : Slot} {from : ℕ} → span .kind ≡ length w → placeOf span ≡ from
+  pub word-entered : {spans′ buckets′ : List ℕ} {m′ : Store} {span : Slot} {from : ℕ} → span .kind ≡ length w
+      → placeOf span ≡ from
       → Entered spans spans′ count buckets buckets′ m m′ span w
       → WordEntered text spans spans′ count (count + 1) buckets buckets′ m m′ from w
   word-entered {spans′} {buckets′} {m′} {span} {from} long place e =
@@ -193,8 +207,10 @@ module _ {text spans : List ℕ} {count : ℕ} {buckets : List ℕ} {m : Store} 
         stands = λ {ns} big here t.
             let spells : spelled text count span ≡ w =
             cond-false (ltb count 16) (getD own-atoms count []) _ (le-ltb count 16 big)
-            ∙ (ap (λ n. take n (drop (placeOf span) text)) long ∙ (ap (λ n. take (length w) (drop n text)) place ∙ here)) in
-            subst (λ l. Table text spans′ (count + 1) buckets′ m′ l) (sym (word-added t)) (e .stands t spells (new-word t));
+            ∙ (ap (λ n. take n (drop (placeOf span) text)) long ∙ (ap (λ n. take (length w) (drop n text)) place
+            ∙ here)) in
+            subst (λ l. Table text spans′ (count + 1) buckets′ m′ l) (sym (word-added t)) (e .stands t spells
+            (new-word t));
         used = omega (arith, e .used);
         more = omega arith;
       }
@@ -226,7 +242,8 @@ behind-start text = record { front = []; is = refl }
 pub behind-length : {text rest : List ℕ} → Behind text rest → length rest ≤ length text
 behind-length {text} {rest} b = omega (arith, ap length (b .is), length-append (b .front) rest)
 
-pub entering-start : {text spans buckets : List ℕ} {m : Store} → Table text spans 16 buckets m own-atoms → Entering text text spans 16 buckets m
+pub entering-start : {text spans buckets : List ℕ} {m : Store} → Table text spans 16 buckets m own-atoms
+    → Entering text text spans 16 buckets m
 entering-start t = record { names = own-atoms; stands = t; ends = refl }
 
 module _ {text rest : List ℕ} (l : Lexeme) (b : Behind text rest) (first : First rest l) where
@@ -235,7 +252,8 @@ module _ {text rest : List ℕ} (l : Lexeme) (b : Behind text rest) (first : Fir
 
   split : text ≡ before ++ (spelling (l .token) ++ l .rest .now)
   unfolding before
-  split = b .is ∙ (ap (λ r. b .front ++ r) (first .place) ∙ sym (append-assoc (b .front) (take (l .skipped) rest) (spelling (l .token) ++ l .rest .now)))
+  split = b .is ∙ (ap (λ r. b .front ++ r) (first .place) ∙ sym (append-assoc (b .front) (take (l .skipped) rest)
+      (spelling (l .token) ++ l .rest .now)))
 
   before-long : length before ≡ length text - length rest + l .skipped
   unfolding before
@@ -254,14 +272,16 @@ module _ {text rest : List ℕ} (l : Lexeme) (b : Behind text rest) (first : Fir
         is = split ∙ sym (append-assoc before (spelling (l .token)) (l .rest .now));
       }
 
-  pub token-here : take (length (spelling (l .token))) (drop (length text - length rest + l .skipped) text) ≡ spelling (l .token)
+  pub token-here : take (length (spelling (l .token))) (drop
+      (length text - length rest + l .skipped) text) ≡ spelling (l .token)
   token-here =
       ap (λ t. take (length (spelling (l .token))) (drop (length text - length rest + l .skipped) t)) split
       ∙ (ap (take (length (spelling (l .token)))) (drop-at before (spelling (l .token) ++ l .rest .now) _ before-long)
       ∙ take-at (spelling (l .token)) (l .rest .now) (length (spelling (l .token))) refl)
 
   pub entering-more : {spans spans′ : List ℕ} {count count′ : ℕ} {buckets buckets′ : List ℕ} {m m′ : Store} → 16 ≤ count
-      → WordEntered text spans spans′ count count′ buckets buckets′ m m′ (length text - length rest + l .skipped) (spelling (l .token))
+      → WordEntered text spans spans′ count count′ buckets buckets′ m m′ (length text - length rest + l .skipped)
+      (spelling (l .token))
       → Entering text rest spans count buckets m → Entering text (l .rest .now) spans′ count′ buckets′ m′
   entering-more big e g =
       record {
@@ -271,7 +291,8 @@ module _ {text rest : List ℕ} (l : Lexeme) (b : Behind text rest) (first : Fir
       }
 
   -- a word for which there is no room is a name of the text
-  pub entering-lacks : {spans : List ℕ} {count : ℕ} {buckets : List ℕ} {m : Store} → WordLacks text spans count buckets m (spelling (l .token))
+  pub entering-lacks : {spans : List ℕ} {count : ℕ} {buckets : List ℕ} {m : Store}
+      → WordLacks text spans count buckets m (spelling (l .token))
       → Entering text rest spans count buckets m → count + 1 ≤ length (names-of text)
   entering-lacks {spans} {count} lacks g =
       let all : with-words (with-word (g .names) (spelling (l .token))) (tokens gap (l .rest .now)) ≡ names-of text =
@@ -287,7 +308,8 @@ module _ {text rest : List ℕ} (l : Lexeme) (b : Behind text rest) (first : Fir
         table-long (g .stands),
       )
 
-pub entering-end : {text rest spans : List ℕ} {count : ℕ} {buckets : List ℕ} {m : Store} → tokens gap rest ≡ [] → Entering text rest spans count buckets m
+pub entering-end : {text rest spans : List ℕ} {count : ℕ} {buckets : List ℕ} {m : Store} → tokens gap rest ≡ []
+    → Entering text rest spans count buckets m
     → Table text spans count buckets m (names-of text)
 entering-end {text} {rest} {spans} {count} {buckets} {m} none g =
     subst (λ l. Table text spans count buckets m l) (sym (ap (with-words (g .names)) none) ∙ g .ends) (g .stands)

@@ -48,7 +48,8 @@ module _ {ns : List Name} {m : Store} {w : Name} where
       → None ≡ first-of ns w numbers
   walking-ends {s} {steps} numbers k g = way (g .rest) (g .here) (g .same-first)
     where
-      way : (rest : List ℕ) → Den m s (atoms rest) → first-of ns w rest ≡ first-of ns w numbers → None ≡ first-of ns w numbers
+      way : (rest : List ℕ) → Den m s (atoms rest) → first-of ns w rest ≡ first-of ns w numbers
+          → None ≡ first-of ns w numbers
       way [] d e = e
       way (i ∷ is) d e = absurd (omega (arith, node-is d, k))
 
@@ -56,39 +57,48 @@ module _ {ns : List Name} {m : Store} {w : Name} where
       → None ≡ first-of ns w numbers
   walking-short {s} {steps} numbers k g = way (g .rest) (g .same-first) (g .short)
     where
-      way : (rest : List ℕ) → first-of ns w rest ≡ first-of ns w numbers → steps + length rest ≤ m .used → None ≡ first-of ns w numbers
+      way : (rest : List ℕ) → first-of ns w rest ≡ first-of ns w numbers → steps + length rest ≤ m .used
+          → None ≡ first-of ns w numbers
       way [] e h = e
       way (i ∷ is) e h = absurd (omega (arith, h, k))
 
   -- the number at hand is the word's
-  pub walking-found : {s : Slot} {steps : ℕ} (numbers : List ℕ) (left : Slot) (a : Atom) (x : Name) → 16 ≤ s .kind → left ≡ leftOf (m .words) s
-      → a .0 ≡ left .low → x ≡ getD ns (a .0) [] → true ≡ same x w → Walking ns m s w steps numbers → Some a ≡ first-of ns w numbers
+  pub walking-found : {s : Slot} {steps : ℕ} (numbers : List ℕ) (left : Slot) (a : Atom) (x : Name) → 16 ≤ s .kind
+      → left ≡ leftOf (m .words) s
+      → a .0 ≡ left .low → x ≡ getD ns (a .0) [] → true ≡ same x w → Walking ns m s w steps numbers
+      → Some a ≡ first-of ns w numbers
   walking-found {s} {steps} numbers left a x k l n is alike g = way (g .rest) (g .here) (g .same-first)
     where
-      way : (rest : List ℕ) → Den m s (atoms rest) → first-of ns w rest ≡ first-of ns w numbers → Some a ≡ first-of ns w numbers
+      way : (rest : List ℕ) → Den m s (atoms rest) → first-of ns w rest ≡ first-of ns w numbers
+          → Some a ≡ first-of ns w numbers
       way [] d e = absurd (omega (arith, leaf-kind d, k, ap (λ (q : Slot). q .kind) (leaf-is d)))
       way (i ∷ is′) d e =
           let number : a .0 ≡ i = n ∙ ap (λ (q : Slot). q .low) (l ∙ leaf-is (node-left d)) in
-          let this : same (getD ns i []) w ≡ true = sym (alike ∙ ap (λ z. same z w) (is ∙ ap (λ j. getD ns j []) number)) in
+          let this : same (getD ns i []) w ≡ true = sym (alike ∙ ap (λ z. same z w) (is ∙ ap
+          (λ j. getD ns j []) number)) in
           let atom : Some a ≡ Some (record { 0 = i }) = ap (λ j. Some (record { 0 = j })) number in
           atom ∙ (sym (cond-true (same (getD ns i []) w) (Some (record { 0 = i })) (first-of ns w is′) this) ∙ e)
 
   -- the number at hand is another's, and the chain goes on
-  pub walking-on : {s : Slot} {steps : ℕ} (numbers : List ℕ) (left right : Slot) (a : Atom) (x : Name) → 16 ≤ s .kind → left ≡ leftOf (m .words) s
+  pub walking-on : {s : Slot} {steps : ℕ} (numbers : List ℕ) (left right : Slot) (a : Atom) (x : Name) → 16 ≤ s .kind
+      → left ≡ leftOf (m .words) s
       → right ≡ rightOf (m .words) s → a .0 ≡ left .low → x ≡ getD ns (a .0) [] → false ≡ same x w
       → Walking ns m s w steps numbers → Walking ns m right w (steps + 1) numbers
   walking-on {s} {steps} numbers left right a x k l r n is differ g = way (g .rest) (g .here) (g .same-first) (g .short)
     where
-      way : (rest : List ℕ) → Den m s (atoms rest) → first-of ns w rest ≡ first-of ns w numbers → steps + length rest ≤ m .used
+      way : (rest : List ℕ) → Den m s (atoms rest) → first-of ns w rest ≡ first-of ns w numbers
+          → steps + length rest ≤ m .used
           → Walking ns m right w (steps + 1) numbers
       way [] d e h = absurd (omega (arith, leaf-kind d, k, ap (λ (q : Slot). q .kind) (leaf-is d)))
       way (i ∷ is′) d e h =
           let number : a .0 ≡ i = n ∙ ap (λ (q : Slot). q .low) (l ∙ leaf-is (node-left d)) in
-          let other : same (getD ns i []) w ≡ false = sym (differ ∙ ap (λ z. same z w) (is ∙ ap (λ j. getD ns j []) number)) in
+          let other : same (getD ns i []) w ≡ false = sym (differ ∙ ap (λ z. same z w) (is ∙ ap
+          (λ j. getD ns j []) number)) in
           record {
             rest = is′;
             here = subst (λ (q : Slot). Den m q (atoms is′)) (sym r) (node-right d);
-            same-first = sym (cond-false (same (getD ns i []) w) (Some (record { 0 = i })) (first-of ns w is′) other) ∙ e;
+            same-first = sym (cond-false (same (getD ns i []) w) (Some (record { 0 = i })) (first-of ns w is′) other)
+                ∙ e;
             short = omega (arith, h);
           }
 
@@ -106,38 +116,50 @@ from-start [] = tt
 from-start (x ∷ xs) = (refl, from-later x xs 0 xs (from-start xs))
 
 -- a bucket has nothing of a word that none of the names is
-pub first-unknown : (ns : List Name) (w : Name) (b i : ℕ) (xs : List Name) (there : List ℕ) → From ns i xs → (Known xs w → ⊥)
+pub first-unknown : (ns : List Name) (w : Name) (b i : ℕ) (xs : List Name) (there : List ℕ) → From ns i xs →
+    (Known xs w → ⊥)
     → first-of ns w (bucket-from b i xs there) ≡ first-of ns w there
 first-unknown ns w b i [] there f n = refl
 first-unknown ns w b i (x ∷ xs) there f n =
     first-unknown ns w b (suc i) xs (cond (eqb (hashOf x) b) (i ∷ there) there) (f .1) (λ k. n (inr k))
     ∙ passed (eqb (hashOf x) b) (cases-bool (same x w))
   where
-    passed : (h : Bool) → (same x w ≡ true) ⊎ (same x w ≡ false) → first-of ns w (cond h (i ∷ there) there) ≡ first-of ns w there
+    passed : (h : Bool) → (same x w ≡ true) ⊎ (same x w ≡ false) → first-of ns w (cond h
+        (i ∷ there) there) ≡ first-of ns w there
     passed h (inl e) = absurd (n (inl e))
-    passed true (inr e) = cond-false (same (getD ns i []) w) (Some (record { 0 = i })) (first-of ns w there) (ap (λ z. same z w) (f .0) ∙ e)
+    passed true (inr e) = cond-false (same (getD ns i []) w) (Some (record { 0 = i })) (first-of ns w there) (ap
+        (λ z. same z w) (f .0) ∙ e)
     passed false (inr e) = refl
 
 -- and the number of the name that it is
-pub first-known : (ns : List Name) (w : Name) (i : ℕ) (xs : List Name) (there : List ℕ) → From ns i xs → Distinct xs → Known xs w
+pub first-known : (ns : List Name) (w : Name) (i : ℕ) (xs : List Name) (there : List ℕ) → From ns i xs → Distinct xs
+    → Known xs w
     → first-of ns w (bucket-from (hashOf w) i xs there) ≡ Some (record { 0 = i + indexOf xs w })
 first-known ns w i [] there f d k = absurd k
 first-known ns w i (x ∷ xs) there f d k =
-    way (cases-bool (same x w)) (λ n. first-known ns w (suc i) xs (cond (eqb (hashOf x) (hashOf w)) (i ∷ there) there) (f .1) (d .1) (known-later x xs w n k))
+    way (cases-bool (same x w)) (λ n. first-known ns w (suc i) xs (cond (eqb (hashOf x) (hashOf w))
+    (i ∷ there) there) (f .1) (d .1) (known-later x xs w n k))
   where
     way : (same x w ≡ true) ⊎ (same x w ≡ false)
-        → (same x w ≡ false → first-of ns w (bucket-from (hashOf w) i (x ∷ xs) there) ≡ Some (record { 0 = suc i + indexOf xs w }))
+        → (same x w ≡ false → first-of ns w (bucket-from (hashOf w) i (x ∷ xs) there) ≡ Some
+        (record { 0 = suc i + indexOf xs w }))
         → first-of ns w (bucket-from (hashOf w) i (x ∷ xs) there) ≡ Some (record { 0 = i + indexOf (x ∷ xs) w })
     way (inl e) later =
         let is : x ≡ w = same-is x w (T-of e) in
         let hash : eqb (hashOf x) (hashOf w) ≡ true = eq-eqb (hashOf x) (hashOf w) (ap hashOf is) in
         let number : i ≡ i + indexOf (x ∷ xs) w = omega (arith, cond-true (same x w) 0 (suc (indexOf xs w)) e) in
-        first-unknown ns w (hashOf w) (suc i) xs (cond (eqb (hashOf x) (hashOf w)) (i ∷ there) there) (f .1) (λ q. d .0 (subst (Known xs) (sym is) q))
+        first-unknown ns w (hashOf w) (suc i) xs (cond (eqb (hashOf x) (hashOf w)) (i ∷ there) there) (f .1)
+        (λ q. d .0 (subst (Known xs) (sym is) q))
         ∙ (ap (λ h. first-of ns w (cond h (i ∷ there) there)) hash
-        ∙ (cond-true (same (getD ns i []) w) (Some (record { 0 = i })) (first-of ns w there) (ap (λ z. same z w) (f .0) ∙ e)
+        ∙ (cond-true (same (getD ns i []) w) (Some (record { 0 = i })) (first-of ns w there) (ap (λ z. same z w)
+        (f .0) ∙ e)
         ∙ ap (λ j. Some (record { 0 = j })) number))
     way (inr n) later =
-        let number : suc i + indexOf xs w ≡ i + indexOf (x ∷ xs) w = omega (arith, cond-false (same x w) 0 (suc (indexOf xs w)) n) in
+        let number : suc i + indexOf xs w ≡ i + indexOf (x ∷ xs) w = omega (
+          arith,
+          cond-false (same x w) 0 (suc
+              (indexOf xs w)) n,
+        ) in
         later n ∙ ap (λ j. Some (record { 0 = j })) number
 
 none-is-some : {a : Atom} → None ≡ Some a → ⊥
@@ -147,7 +169,8 @@ some-one : {a b : Atom} → Some a ≡ Some b → a .0 ≡ b .0
 some-one {a} {b} p = let q : a ≡ b = cc in ap (λ (x : Atom). x .0) q
 
 -- the word's number, or none
-pub bucket-numbers : (ns : List Name) (w : Name) (r : Option Atom) → Distinct ns → r ≡ first-of ns w (bucket (hashOf w) ns) → Numbered ns w r
+pub bucket-numbers : (ns : List Name) (w : Name) (r : Option Atom) → Distinct ns → r ≡ first-of ns w (bucket
+    (hashOf w) ns) → Numbered ns w r
 bucket-numbers ns w None d e = λ k. none-is-some (e ∙ first-known ns w 0 ns [] (from-start ns) d k)
 bucket-numbers ns w (Some a) d e = elim (known-or-not ns w) [
   | inl k ↦ (k, some-one (e ∙ first-known ns w 0 ns [] (from-start ns) d k) ∙ zero-add (indexOf ns w))
@@ -155,8 +178,10 @@ bucket-numbers ns w (Some a) d e = elim (known-or-not ns w) [
 ]
 
 -- so the walk along the word's bucket finds its number
-pub bucket-found : {text spans : List ℕ} {count : ℕ} {buckets : List ℕ} {m : Store} {w : Name} {r : Option Atom} (b : ℕ) (head : Slot)
-    → b ≡ hashOf w → b < 1024 → head ≡ slotAt buckets b → Walked (table text spans count) m head w r → Finds text spans count buckets m w r
+pub bucket-found : {text spans : List ℕ} {count : ℕ} {buckets : List ℕ} {m : Store} {w : Name} {r : Option Atom}
+    (b : ℕ) (head : Slot)
+    → b ≡ hashOf w → b < 1024 → head ≡ slotAt buckets b → Walked (table text spans count) m head w r
+    → Finds text spans count buckets m w r
 bucket-found {text} {spans} {count} {buckets} {m} {w} {r} b head hash below is walked =
     record {
       number = λ {ns} t.
@@ -164,5 +189,6 @@ bucket-found {text} {spans} {count} {buckets} {m} {w} {r} b head hash below is w
           subst (λ j. Den m head (atoms (bucket j ns))) hash
           (subst (λ (q : Slot). Den m q (atoms (bucket b ns))) (sym is) (t .chained .chain b below)) in
           bucket-numbers ns w r (t .distinct)
-          (subst (λ ms. r ≡ first-of ms w (bucket (hashOf w) ns)) (t .names) (walked .first (bucket (hashOf w) ns) chain));
+          (subst (λ ms. r ≡ first-of ms w (bucket (hashOf w) ns)) (t .names) (walked .first (bucket
+          (hashOf w) ns) chain));
     }

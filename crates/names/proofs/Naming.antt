@@ -106,7 +106,8 @@ left-no-atom ns w a = record { known = λ t. absurd (subst T a t); is = rw a ref
 pub with-word-is : (ns : List Name) (w : Name) → Added ns w ⊎ Left ns w
 with-word-is ns w = way (cases-bool (is-atom w)) (cases-bool (listed w ns))
   where
-    way : (is-atom w ≡ true) ⊎ (is-atom w ≡ false) → (listed w ns ≡ true) ⊎ (listed w ns ≡ false) → Added ns w ⊎ Left ns w
+    way : (is-atom w ≡ true) ⊎ (is-atom w ≡ false) → (listed w ns ≡ true) ⊎ (listed w ns ≡ false)
+        → Added ns w ⊎ Left ns w
     way (inr a) l = inr (left-no-atom ns w a)
     way (inl a) (inl l) = inr (left-known ns w (known-from-listed ns w l))
     way (inl a) (inr l) = inl (added ns w a (λ k. both-ways (listed w ns) l (listed-from-known ns w k)))
@@ -222,7 +223,8 @@ names-stand text =
     let grown = grown-words own-atoms (tokens gap text) in
     record {
       knows = knows-words own-atoms (tokens gap text);
-      own-known = all-weaker (Known own-atoms) (Known (names-of text)) (λ w k. grown-known w grown k) own-atoms (all-known own-atoms);
+      own-known = all-weaker (Known own-atoms) (Known (names-of text)) (λ w k. grown-known w grown k) own-atoms
+          (all-known own-atoms);
       own-numbers = subst OwnNumbers (sym (grown .is)) (own-numbers (grown .more));
       distinct = distinct-words own-atoms (tokens gap text) own-distinct;
       least = omega (arith, ap length (grown .is), length-append own-atoms (grown .more), own-length);

@@ -16,7 +16,8 @@ use Rattle.names.specs.Table.{spelled, table}
 module _ (text : List ℕ) (long from place : ℕ) (is : from ≡ place) where
   pub part-past : length text ≤ from → [] ≡ take long (drop place text)
   part-past h =
-      sym (take-all long (drop place text) (omega (arith, h, is, length-drop place text)) ∙ drop-all place text (omega (arith, h, is)))
+      sym (take-all long (drop place text) (omega (arith, h, is, length-drop place text)) ∙ drop-all place text
+      (omega (arith, h, is)))
 
   pub part-end : length (take (length text - from) (drop from text)) ≤ long
       → take (length text - from) (drop from text) ≡ take long (drop place text)
@@ -30,14 +31,17 @@ module _ (text : List ℕ) (long from place : ℕ) (is : from ≡ place) where
 module _ (text spans : List ℕ) where
   pub length-table : (count : ℕ) → length (table text spans count) ≡ count
   length-table zero = refl
-  length-table (suc n) = length-push (table text spans n) (spelled text n (slotAt spans n)) ∙ omega (arith, length-table n)
+  length-table (suc n) = length-push (table text spans n) (spelled text n (slotAt spans n)) ∙ omega
+      (arith, length-table n)
 
   pub table-at : (count i : ℕ) → i < count → getD (table text spans count) i [] ≡ spelled text i (slotAt spans i)
   table-at zero i h = absurd (omega arith)
   table-at (suc n) i h = elim (cases-lt i n) [
-    | inl l ↦ getD-append-left (table text spans n) (spelled text n (slotAt spans n) ∷ []) [] i (omega (arith, l, length-table n)) ∙ table-at n i l
+    | inl l ↦ getD-append-left (table text spans n) (spelled text n (slotAt spans n) ∷ []) [] i (omega
+        (arith, l, length-table n)) ∙ table-at n i l
     | inr g ↦ let e : n ≡ i = omega arith in
-        getD-push (table text spans n) (spelled text n (slotAt spans n)) [] i (length-table n ∙ e) ∙ ap (λ k. spelled text k (slotAt spans k)) e
+        getD-push (table text spans n) (spelled text n (slotAt spans n)) [] i (length-table n ∙ e) ∙ ap
+        (λ k. spelled text k (slotAt spans k)) e
   ]
 
   pub table-past : (count i : ℕ) → count ≤ i → [] ≡ getD (table text spans count) i []

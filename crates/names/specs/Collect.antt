@@ -22,7 +22,8 @@ pub record Cleared (buckets : List ℕ) : Type 0 where
   pub empty : {m : Store} → Chained buckets m []
 
 -- the word is the next name, if the span spells it and it was not known
-pub record Entered (spans spans′ : List ℕ) (count : ℕ) (buckets buckets′ : List ℕ) (m m′ : Store) (span : Slot) (w : Name) : Type 0 where
+pub record Entered (spans spans′ : List ℕ) (count : ℕ) (buckets buckets′ : List ℕ) (m m′ : Store) (span : Slot)
+    (w : Name) : Type 0 where
   pub stands : {text : List ℕ} {ns : List Name} → Table text spans count buckets m ns → spelled text count span ≡ w
       → (Known ns w → ⊥) → Table text spans′ (count + 1) buckets′ m′ (ns ++ (w ∷ []))
   pub used : m′ .used ≡ m .used + 1
@@ -34,8 +35,10 @@ pub record OwnEntered (spans′ buckets buckets′ : List ℕ) (m m′ : Store) 
   pub used : m′ .used ≡ m .used + 16
 
 -- a word of the text, from that place on, is among the names if it can be
-pub record WordEntered (text spans spans′ : List ℕ) (count count′ : ℕ) (buckets buckets′ : List ℕ) (m m′ : Store) (from : ℕ) (w : Name) : Type 0 where
-  pub stands : {ns : List Name} → 16 ≤ count → take (length w) (drop from text) ≡ w → Table text spans count buckets m ns
+pub record WordEntered (text spans spans′ : List ℕ) (count count′ : ℕ) (buckets buckets′ : List ℕ) (m m′ : Store)
+    (from : ℕ) (w : Name) : Type 0 where
+  pub stands : {ns : List Name} → 16 ≤ count → take (length w) (drop from text) ≡ w
+      → Table text spans count buckets m ns
       → Table text spans′ count′ buckets′ m′ (with-word ns w)
   pub used : m′ .used + count ≡ m .used + count′
   pub more : count ≤ count′
@@ -46,7 +49,8 @@ pub record WordLacks (text spans : List ℕ) (count : ℕ) (buckets : List ℕ) 
   pub short : Lacking spans buckets (m .words) (count + 1) (m .used + 1)
 
 -- all words of the text are among the names, if the atoms of the language were
-pub record WordsEntered (text spans spans′ : List ℕ) (count : ℕ) (buckets buckets′ : List ℕ) (m m′ : Store) : Type 0 where
+pub record WordsEntered (text spans spans′ : List ℕ) (count : ℕ) (buckets buckets′ : List ℕ)
+    (m m′ : Store) : Type 0 where
   pub count-is : Table text spans 16 buckets m own-atoms → count ≡ length (names-of text)
   pub stands : Table text spans 16 buckets m own-atoms → Table text spans′ count buckets′ m′ (names-of text)
   pub used : m′ .used + 16 ≡ m .used + count

@@ -42,7 +42,8 @@ abbrev pub Numbered : List Name → Name → Option Atom → Type 0
 Numbered ns w r = Cases r (Known ns w → ⊥) (λ a. Known ns w × (a .0 ≡ indexOf ns w))
 
 -- r is the number of the word, whatever names the words hold
-pub record Finds (text spans : List ℕ) (count : ℕ) (buckets : List ℕ) (m : Store) (w : Name) (r : Option Atom) : Type 0 where
+pub record Finds (text spans : List ℕ) (count : ℕ) (buckets : List ℕ) (m : Store) (w : Name)
+    (r : Option Atom) : Type 0 where
   pub number : {ns : List Name} → Table text spans count buckets m ns → Numbered ns w r
 
 -- r is the first number of the chain from s on that is the word's

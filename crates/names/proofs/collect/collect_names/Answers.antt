@@ -15,10 +15,12 @@ returns-in-Err-enter-own-atoms c =
       long = c .in-Err-enter-own-atoms .ensures tt .long;
       kept = c .in-Err-enter-own-atoms .ensures tt .kept;
       cases = record {
-        short = lacking-more (c .args .spans .now) (c .args .spans .now) (c .args .buckets .now) (c .clear .last .buckets)
+        short = lacking-more (c .args .spans .now) (c .args .spans .now) (c .args .buckets .now)
+            (c .clear .last .buckets)
             (c .args .heap .now .words .now) (c .args .heap .now .words .now) 16 (c .args .heap .now .used + 16)
             (length (names-of (c .args .text .now))) (c .args .heap .now .used + length (names-of (c .args .text .now)))
-            refl (omega (arith, c .clear .kept .buckets)) refl least (omega (arith, least)) (c .in-Err-enter-own-atoms .ensures tt .cases);
+            refl (omega (arith, c .clear .kept .buckets)) refl least (omega (arith, least))
+            (c .in-Err-enter-own-atoms .ensures tt .cases);
       };
     }
 
@@ -30,7 +32,12 @@ returns-in-Ok-enter-words c =
     record {
       long = c .in-Ok-enter-words .ensures tt .long ∙ c .in-Ok-enter-own-atoms .ensures tt .long;
       kept = kept-trans (c .in-Ok-enter-own-atoms .ensures tt .kept) (c .in-Ok-enter-words .ensures tt .kept);
-      cases = record { count-is = all .count-is begun; stands = all .stands begun; used = omega (arith, own .used, all .used) };
+      cases = record {
+        count-is = all .count-is begun;
+        stands = all .stands begun;
+        used = omega
+            (arith, own .used, all .used);
+      };
     }
 
 pub returns-in-Err-enter-words : need.returns-in-Err-enter-words
@@ -41,11 +48,15 @@ returns-in-Err-enter-words c =
       long = c .in-Err-enter-words .ensures tt .long ∙ c .in-Ok-enter-own-atoms .ensures tt .long;
       kept = kept-trans (c .in-Ok-enter-own-atoms .ensures tt .kept) (c .in-Err-enter-words .ensures tt .kept);
       cases = record {
-        short = lacking-more (c .args .spans .now) (c .enter-own-atoms .last .spans) (c .args .buckets .now) (c .enter-own-atoms .last .buckets)
-            (c .args .heap .now .words .now) (c .enter-own-atoms .last .heap .words .now) names (c .args .heap .now .used + names)
+        short = lacking-more (c .args .spans .now) (c .enter-own-atoms .last .spans) (c .args .buckets .now)
+            (c .enter-own-atoms .last .buckets)
+            (c .args .heap .now .words .now) (c .enter-own-atoms .last .heap .words .now) names
+            (c .args .heap .now .used + names)
             names (c .args .heap .now .used + names) (omega (arith, c .enter-own-atoms .kept .spans))
-            (omega (arith, c .clear .kept .buckets, c .enter-own-atoms .kept .buckets)) (c .in-Ok-enter-own-atoms .ensures tt .long)
+            (omega (arith, c .clear .kept .buckets, c .enter-own-atoms .kept .buckets))
+            (c .in-Ok-enter-own-atoms .ensures tt .long)
             (omega arith) (omega arith)
-            (c .in-Err-enter-words .ensures tt .cases .short (c .args .heap .now .used) (own .stands (c .in-Ok .ensures tt .empty)) (own .used));
+            (c .in-Err-enter-words .ensures tt .cases .short (c .args .heap .now .used) (own .stands
+            (c .in-Ok .ensures tt .empty)) (own .used));
       };
     }

@@ -10,7 +10,8 @@ loop-i-again c = (
   c .in-Ok .ensures tt .long ∙ c .loop-i .inv .0,
   kept-trans (c .loop-i .inv .1) (c .in-Ok .ensures tt .kept),
   omega (arith, c .in-Ok .ensures tt .cases .used, c .loop-i .inv .2),
-  (λ text empty. own-more (c .loop-i-test .taken) (c .own-atom .ensures) (c .in-Ok .ensures tt .cases) (c .loop-i .inv .3 text empty)),
+  (λ text empty. own-more (c .loop-i-test .taken) (c .own-atom .ensures) (c .in-Ok .ensures tt .cases)
+      (c .loop-i .inv .3 text empty)),
 )
 
 pub returns : need.returns

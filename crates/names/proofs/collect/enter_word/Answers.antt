@@ -17,7 +17,8 @@ returns-in-Ok c =
     record {
       long = c .in-Ok .ensures tt .long;
       kept = c .in-Ok .ensures tt .kept;
-      cases = word-entered (sym (c .if-not-is-atom .ensures tt)) (c .in-None .ensures tt) refl (c .slot-span .ensures .kind)
+      cases = word-entered (sym (c .if-not-is-atom .ensures tt)) (c .in-None .ensures tt) refl
+          (c .slot-span .ensures .kind)
           (c .slot-span .ensures .place) (c .in-Ok .ensures tt .cases);
     }
 

@@ -22,11 +22,14 @@ returns-in-Err c =
       kept = kept-trans (c .loop-lexeme .inv .1) (c .in-Err .ensures tt .kept);
       cases = record {
         short = λ start t used.
-            let more = entering-lacks (c .in-Some .lexeme) (c .loop-lexeme .inv .4) first lacks (c .loop-lexeme .inv .5 t) in
+            let more = entering-lacks (c .in-Some .lexeme) (c .loop-lexeme .inv .4) first lacks
+            (c .loop-lexeme .inv .5 t) in
             lacking-more (c .args .spans .now) (c .loop-lexeme .spans) (c .args .buckets .now) (c .loop-lexeme .buckets)
-            (c .args .heap .now .words .now) (c .loop-lexeme .heap .words .now) (c .loop-lexeme .count + 1) (c .loop-lexeme .heap .used + 1)
+            (c .args .heap .now .words .now) (c .loop-lexeme .heap .words .now) (c .loop-lexeme .count + 1)
+            (c .loop-lexeme .heap .used + 1)
             (length (names-of (c .args .text .now))) (start + length (names-of (c .args .text .now)))
-            (omega (arith, c .loop-lexeme .kept .spans)) (omega (arith, c .loop-lexeme .kept .buckets)) (c .loop-lexeme .inv .0)
+            (omega (arith, c .loop-lexeme .kept .spans)) (omega (arith, c .loop-lexeme .kept .buckets))
+            (c .loop-lexeme .inv .0)
             more (omega (arith, more, used, c .loop-lexeme .inv .2)) (lacks .short);
       };
     }
@@ -40,7 +43,8 @@ loop-lexeme-again c =
       omega (arith, entered .used, c .loop-lexeme .inv .2),
       omega (arith, entered .more, c .loop-lexeme .inv .3),
       behind-more (c .in-Some .lexeme) (c .loop-lexeme .inv .4) first,
-      (λ t. entering-more (c .in-Some .lexeme) (c .loop-lexeme .inv .4) first (c .loop-lexeme .inv .3) entered (c .loop-lexeme .inv .5 t)),
+      (λ t. entering-more (c .in-Some .lexeme) (c .loop-lexeme .inv .4) first (c .loop-lexeme .inv .3) entered
+          (c .loop-lexeme .inv .5 t)),
     )
 
 pub returns : need.returns

@@ -9,7 +9,8 @@ use Rattle.names.proofs.hash.hash.Needs as need
 pub loop-byte-again : need.loop-byte-again
 loop-byte-again c = (
   omega arith,
-  sym (at-drop-more (hash-from (c .loop-byte .sum)) (c .args .word .now) (c .loop-byte .byte-index) 0 (c .loop-byte-test .taken))
+  sym (at-drop-more (hash-from (c .loop-byte .sum)) (c .args .word .now) (c .loop-byte .byte-index) 0
+      (c .loop-byte-test .taken))
       ∙ c .loop-byte .inv .1,
 )
 
@@ -17,7 +18,8 @@ pub returns : need.returns
 unfolding hashOf
 returns c =
     record {
-      is = sym (at-drop-all (hash-from (c .loop-byte .sum)) (c .args .word .now) (c .loop-byte .byte-index) (c .loop-byte-test .left))
+      is = sym (at-drop-all (hash-from (c .loop-byte .sum)) (c .args .word .now) (c .loop-byte .byte-index)
+          (c .loop-byte-test .left))
           ∙ c .loop-byte .inv .1;
       below = c .loop-byte .inv .0;
     }

@@ -11,5 +11,6 @@ pub returns-then-is-atom : need.returns-then-is-atom
 returns-then-is-atom c =
     let w = c .args .word .now in
     ap not (c .is-keyword .ensures)
-    ∙ and-one-more (leb 1 (length w)) (leb (length w) 32) (all-letters w) (not (digit-first w)) (not (listed w keywords))
+    ∙ and-one-more (leb 1 (length w)) (leb (length w) 32) (all-letters w) (not (digit-first w)) (not
+    (listed w keywords))
     (c .if-is-atom .ensures tt)
