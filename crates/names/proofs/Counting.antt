@@ -1,9 +1,9 @@
 -- A text has at most one word for each two bytes and one more: between two words stands a byte that is in neither.
-use mathlib.Core.Path.{_≡_, refl, sym, ap, _∙_}
-use mathlib.Core.Bool.{Bool, true, false, not, cond, _&&_}
+use mathlib.Core.Path.{_≡_, ap}
+use mathlib.Core.Bool.{true, false, not, cond}
 use mathlib.Core.List.{List, [], _∷_, _++_}
 use mathlib.Core.Logic.{_⊎_, inl, inr}
-use Prim.Native.Nat.{ℕ, suc, _+_, _*_, _≤_}
+use Prim.Native.Nat.{ℕ, _+_, _*_, _≤_}
 use native.Mathlib.Omega.{arith}
 use lib.Dec.{leb, eqb}
 use lib.ListN.{length}
@@ -19,7 +19,7 @@ abbrev pub atoms-in : List Name → ℕ
 atoms-in [] = 0
 atoms-in (w ∷ ws) = cond (is-atom w) 1 0 + atoms-in ws
 
-pub no-atom : (c : ℕ) (cs : Name) → is-letter c ≡ false → is-atom (c ∷ cs) ≡ false
+no-atom : (c : ℕ) (cs : Name) → is-letter c ≡ false → is-atom (c ∷ cs) ≡ false
 no-atom c cs n =
     and-right (leb 1 (length (c ∷ cs))) _ (and-right (leb (length (c ∷ cs)) 32) _
     (and-left (all-letters (c ∷ cs)) (not (digit-first (c ∷ cs))) (and-left (is-letter c) (all-letters cs) n)))

@@ -1,42 +1,36 @@
 -- Entering names. A new name is written behind the spans of the others and goes to the head of its bucket; no other
 -- bucket changes. So the words hold the table with the name at its end, token by token, until all words are in it.
 use mathlib.Core.Path.{_≡_, refl, sym, ap, subst, _∙_}
-use mathlib.Core.Bool.{Bool, true, false, cond}
+use mathlib.Core.Bool.{true, false, cond}
 use mathlib.Core.List.{List, [], _∷_, _++_, append-assoc}
 use mathlib.Core.Logic.{_⊎_, inl, inr}
-use Prim.Native.Nat.{ℕ, zero, suc, _+_, _-_, _*_, _^_, _<_, _≤_}
+use Prim.Native.Nat.{ℕ, zero, suc, _+_, _-_, _^_, _<_, _≤_}
 use native.Mathlib.Nat.{add-zero, zero-add}
 use native.Mathlib.Numerals.{add-one}
 use native.Mathlib.Omega.{arith}
-use lib.Dec.{T, eqb, leb, ltb}
+use lib.Dec.{eqb, ltb}
 use lib.ListN.{length, getD, take, drop}
-use Rattle.std.specs.Options.{Cases}
 use Rattle.std.specs.declared.option.Option.{Option}
-use Rattle.std.specs.declared.option.Option.the-variants.{Some, None}
+use Rattle.std.specs.declared.option.Option.the-variants.{None}
 use Rattle.std.proofs.shelf.Lists.{length-append, length-take-le, take-more, take-all, take-at, drop-at}
-use Rattle.std.proofs.shelf.Tests.{cases-bool, cond-true, cond-false, eq-eqb, ne-eqb, eqb-true, eqb-false, lt-ltb, le-ltb, leb-true, and-parts}
-use Rattle.meaning.specs.Basics.{Name, same}
+use Rattle.std.proofs.shelf.Tests.{cases-bool, cond-true, cond-false, eqb-true, eqb-false, lt-ltb, le-ltb}
+use Rattle.meaning.specs.Basics.{Name}
 use Rattle.meaning.specs.Grammar.{is-atom}
 use Rattle.meaning.specs.Tokens.{gap, tokens}
 use Rattle.meaning.proofs.Splits.{T-of, same-is, same-refl}
-use Rattle.store.specs.Heap.{Store, Den, Kept, Put}
+use Rattle.store.specs.Heap.{Store, Den, Put}
 use Rattle.store.specs.Slots.{slotAt, placeOf, Wrote}
-use Rattle.store.specs.Tree.{leaf}
 use Rattle.store.specs.declared.slot.Slot.{Slot}
-use Rattle.store.proofs.Laws.{leaf-stands, keeps, kept-refl, kept-trans}
-use Rattle.tokens.specs.Cutting.{Proper, First, spelling}
+use Rattle.store.proofs.Laws.{leaf-stands, keeps}
+use Rattle.tokens.specs.Cutting.{First, spelling}
 use Rattle.tokens.specs.declared.token.Lexeme.{Lexeme}
-use Rattle.tokens.specs.declared.token.Token.the-variants as token
-use Rattle.tokens.specs.declared.token.Sign.{Sign}
-use Rattle.tokens.specs.declared.token.Sign.the-variants.{Arrow, DoubleColon, Equal, Unequal, AtMost}
 use Rattle.values.specs.Encoding.{Known}
 use Rattle.values.specs.declared.value.Atom.{Atom}
 use Rattle.names.specs.Names.{own-atoms, with-word, with-words, names-of, Distinct}
 use Rattle.names.specs.Buckets.{hashOf, bucket-from, bucket, atoms}
 use Rattle.names.specs.Table.{spelled, table, Chained, Table, Numbered, Finds}
-use Rattle.names.specs.Collect.{Lacking, Cleared, Entered, OwnEntered, WordEntered, WordLacks, WordsEntered, WordsLack, Collected, Uncollected}
-use Rattle.names.proofs.Counting.{no-atom}
-use Rattle.names.proofs.Naming.{distinct-push, own-distinct, own-length, added, left-known, left-no-atom, grown-words}
+use Rattle.names.specs.Collect.{Lacking, Entered, WordEntered, WordLacks}
+use Rattle.names.proofs.Naming.{distinct-push, own-distinct, own-length, added, grown-words}
 use Rattle.names.proofs.Spelling.{length-table}
 
 pub table-long : {text spans : List ℕ} {count : ℕ} {buckets : List ℕ} {m : Store} {ns : List Name}
@@ -131,16 +125,6 @@ module _ {spans spans′ : List ℕ} {count : ℕ} {buckets buckets′ : List �
         small = small;
       }
 
--- empty buckets
-pub cleared : (buckets : List ℕ) → ((b : ℕ) → b < 1024 → slotAt buckets b ≡ record { kind = 2; low = 0; high = 0 })
-    → Cleared buckets
-cleared buckets h =
-    record {
-      empty = λ {m}. record {
-        chain = λ b l. subst (λ (q : Slot). Den m q (leaf 2 0 0)) (sym (h b l)) (leaf-stands 2 0 0 (omega arith));
-      };
-    }
-
 -- the atoms of the language, one by one
 known-at : (xs : List Name) (i : ℕ) → i < length xs → Known xs (getD xs i [])
 known-at [] i h = absurd (omega (arith, h))
@@ -153,10 +137,6 @@ distinct-at (x ∷ xs) zero h d k = k
 distinct-at (x ∷ xs) (suc i) h d (inl e) =
     d .0 (subst (Known xs) (sym (same-is x (getD xs i []) (T-of e))) (known-at xs i (omega (arith, h))))
 distinct-at (x ∷ xs) (suc i) h d (inr k) = distinct-at xs i (omega (arith, h)) (d .1) k
-
-pub own-begins : {text spans buckets : List ℕ} {m : Store} → Chained buckets m [] → Table text spans 0 buckets m
-    (take 0 own-atoms)
-own-begins c = record { names = refl; distinct = tt; chained = c }
 
 pub own-more : {text spans spans′ : List ℕ} {i : ℕ} {buckets buckets′ : List ℕ} {m m′ : Store} {span : Slot} {w : Name} → i < 16
     → w ≡ getD own-atoms i [] → Entered spans spans′ i buckets buckets′ m m′ span w → Table text spans i buckets m
@@ -214,16 +194,6 @@ module _ {text spans : List ℕ} {count : ℕ} {buckets : List ℕ} {m : Store} 
         used = omega (arith, e .used);
         more = omega arith;
       }
-
-pub sign-no-atom : (s : Sign) → is-atom (spelling (token.Sign s)) ≡ false
-sign-no-atom Arrow = refl
-sign-no-atom DoubleColon = refl
-sign-no-atom Equal = refl
-sign-no-atom Unequal = refl
-sign-no-atom AtMost = refl
-
-pub atom-short : (w : Name) → is-atom w ≡ true → length w ≤ 32
-atom-short w a = leb-true (length w) 32 (and-parts (leb (length w) 32) _ (and-parts (leb 1 (length w)) _ a .1) .0)
 
 -- the text that is still to be read is the end of the text
 pub record Behind (text rest : List ℕ) : Type 0 where

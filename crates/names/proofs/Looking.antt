@@ -2,29 +2,28 @@
 -- bucket of the word's hash has its number where it is known, and no other name is the same, since no name stands twice.
 use mathlib.Core.Path.{_≡_, refl, sym, ap, subst, _∙_}
 use mathlib.Core.Bool.{Bool, true, false, cond}
-use mathlib.Core.List.{List, [], _∷_, _++_}
+use mathlib.Core.List.{List, [], _∷_}
 use mathlib.Core.Logic.{_⊎_, inl, inr}
-use Prim.Native.Nat.{ℕ, zero, suc, _+_, _≤_, _<_}
+use Prim.Native.Nat.{ℕ, suc, _+_, _≤_, _<_}
 use native.Mathlib.Nat.{zero-add}
 use native.Mathlib.Omega.{arith}
-use lib.Dec.{T, eqb}
+use lib.Dec.{eqb}
 use lib.ListN.{length, getD}
-use Rattle.std.specs.Options.{Cases}
 use Rattle.std.specs.declared.option.Option.{Option}
 use Rattle.std.specs.declared.option.Option.the-variants.{Some, None}
-use Rattle.std.proofs.shelf.Tests.{cases-bool, cond-true, cond-false, eq-eqb, ltb-true}
+use Rattle.std.proofs.shelf.Tests.{cases-bool, cond-true, cond-false, eq-eqb}
 use Rattle.meaning.specs.Basics.{Name, same}
-use Rattle.meaning.proofs.Splits.{T-of, same-is, same-refl}
+use Rattle.meaning.proofs.Splits.{T-of, same-is}
 use Rattle.store.specs.Heap.{Store, Den, leftOf, rightOf}
 use Rattle.store.specs.Slots.{slotAt}
-use Rattle.store.specs.Tree.{Tree, spine}
+use Rattle.store.specs.Tree.{spine}
 use Rattle.store.specs.declared.slot.Slot.{Slot}
-use Rattle.store.proofs.Laws.{leaf-is, leaf-kind, node-is, node-kind, node-left, node-right, spine-fits}
+use Rattle.store.proofs.Laws.{leaf-is, leaf-kind, node-is, node-left, node-right, spine-fits}
 use Rattle.values.specs.Encoding.{indexOf, Known}
 use Rattle.values.specs.declared.value.Atom.{Atom}
 use Rattle.names.specs.Names.{Distinct}
 use Rattle.names.specs.Buckets.{hashOf, bucket-from, bucket, atoms, first-of}
-use Rattle.names.specs.Table.{table, Table, Numbered, Finds, Walked}
+use Rattle.names.specs.Table.{table, Numbered, Finds, Walked}
 use Rattle.names.proofs.Naming.{known-later, known-or-not}
 
 -- what is left of a chain has the word's number where the chain has it, and there are steps left for it

@@ -1,17 +1,17 @@
 -- The laws of the names of a text. A word that is added was not known, so no name stands twice; names go to the end, so
 -- the atoms of the language keep their numbers, and what is known stays known.
 use mathlib.Core.Path.{_≡_, refl, sym, ap, subst, _∙_}
-use mathlib.Core.Bool.{Bool, true, false, not, cond, _&&_, _||_}
+use mathlib.Core.Bool.{Bool, true, false, not, cond, _&&_}
 use mathlib.Core.List.{List, [], _∷_, _++_, append-assoc, append-nil}
 use mathlib.Core.Logic.{_⊎_, inl, inr}
-use Prim.Native.Nat.{ℕ, suc, _+_, _*_, _<_, _≤_}
+use Prim.Native.Nat.{ℕ, suc, _+_, _<_, _≤_}
 use native.Mathlib.Omega.{arith}
 use lib.Dec.{T}
 use lib.ListN.{length}
 use Rattle.std.specs.shelf.Lists.{All}
 use Rattle.std.proofs.shelf.Elements.{all-weaker}
 use Rattle.std.proofs.shelf.Lists.{length-append}
-use Rattle.std.proofs.shelf.Tests.{false≢true, true≢false, both-ways, not-true, not-false, cases-bool, and-parts, and-cases, or-cases, or-left, or-right, cond-true, cond-false}
+use Rattle.std.proofs.shelf.Tests.{false≢true, both-ways, not-true, cases-bool, and-parts, or-cases, or-left, or-right, cond-true, cond-false}
 use Rattle.meaning.specs.Basics.{Name, same, listed}
 use Rattle.meaning.specs.Grammar.{is-atom}
 use Rattle.meaning.specs.Tokens.{gap, tokens}

@@ -2,19 +2,18 @@
 use mathlib.Core.Path.{_≡_}
 use mathlib.Core.Bool.{cond}
 use mathlib.Core.List.{List, [], _∷_, _++_}
-use mathlib.Core.Logic.{_⊎_}
-use Prim.Native.Nat.{ℕ, zero, suc, _+_, _*_, _^_, _<_, _≤_}
+use Prim.Native.Nat.{ℕ, zero, suc, _<_}
 use lib.Dec.{ltb}
-use lib.ListN.{length, getD, take, drop}
+use lib.ListN.{getD, take, drop}
 use Rattle.std.specs.Options.{Cases}
 use Rattle.std.specs.declared.option.Option.{Option}
 use Rattle.meaning.specs.Basics.{Name}
-use Rattle.store.specs.Heap.{Store, Den, Kept}
+use Rattle.store.specs.Heap.{Store, Den}
 use Rattle.store.specs.Slots.{slotAt, placeOf}
 use Rattle.store.specs.declared.slot.Slot.{Slot}
 use Rattle.values.specs.Encoding.{indexOf, Known}
 use Rattle.values.specs.declared.value.Atom.{Atom}
-use Rattle.names.specs.Names.{own-atoms, names-of, Distinct}
+use Rattle.names.specs.Names.{own-atoms, Distinct}
 use Rattle.names.specs.Buckets.{bucket, atoms, first-of}
 
 -- the name of number i, whose span is the slot s: as many bytes as its kind says, from its place in the text on;

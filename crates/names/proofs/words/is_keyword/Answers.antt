@@ -1,4 +1,4 @@
-use mathlib.Core.Path.{_≡_, _∙_}
+use mathlib.Core.Path.{_∙_}
 use Rattle.meaning.specs.Grammar.{keywords}
 use Rattle.names.proofs.Keywords.{listed-passed}
 use Rattle.names.proofs.words.is_keyword.Needs as need
