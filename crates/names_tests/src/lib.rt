@@ -1,0 +1,4 @@
+//! What the table of names does on examples.
+
+#[cfg(test)]
+mod tests;
