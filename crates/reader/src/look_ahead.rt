@@ -3,7 +3,7 @@ ghost use mathlib.Core.Path.{_≡_};
 ghost use mathlib.Core.List.{List};
 ghost use Prim.Native.Nat.{ℕ, _+_, _^_, _<_};
 ghost use Rattle.meaning.specs.Tokens.{gap, tokens};
-ghost use Rattle.grammar.specs.LookAhead.{binds as binding, landmark};
+ghost use Rattle.grammar.specs.LookAhead.{binds as binding, landmark as token-landmark};
 ghost use Rattle.grammar.specs.Classes.{c-separate};
 ghost use Rattle.reader.specs.Classes.{class-means, separator-means};
 ghost use Rattle.reader.specs.LookAhead.{Passes, landmark-means};
@@ -80,7 +80,7 @@ fn pass_landmark(depth: usize, landmark: Landmark) -> Passing
 
 // The landmark that a token of the class is.
 fn landmark_of(class: Class) -> Landmark
-    ensures { λ r. ⌜ ((w : List ℕ) → landmark-means r ≡ landmark (class-means class w)) ⌝ }
+    ensures { λ r. ⌜ ((w : List ℕ) → landmark-means r ≡ token-landmark (class-means class w)) ⌝ }
 {
     match class {
         Class::Open(_) => Landmark::Open,
@@ -97,7 +97,7 @@ fn landmark_of(class: Class) -> Landmark
 
 // The landmark that a separator is.
 fn separator_landmark(separator: Separator) -> Landmark
-    ensures { λ r. ⌜ landmark-means r ≡ landmark (c-separate (separator-means separator)) ⌝ }
+    ensures { λ r. ⌜ landmark-means r ≡ token-landmark (c-separate (separator-means separator)) ⌝ }
 {
     match separator {
         Separator::Equals => Landmark::Equals,
