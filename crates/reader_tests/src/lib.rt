@@ -1,0 +1,4 @@
+//! Tokens and their classes, numbers, and statements that bind.
+
+#[cfg(test)]
+mod tests;
