@@ -8,8 +8,19 @@ use native.Mathlib.Omega.{arith}
 use lib.ListN.{length}
 use Rattle.meaning.specs.Basics.{Name, opt}
 use Rattle.meaning.specs.Syntax.{Clauses}
-use Rattle.meaning.specs.System.{Scope, Until, for-ever, until, Control as Meant, enter, wait, Worker, System,
-    on-worker, set-mail}
+use Rattle.meaning.specs.System.{
+  Scope,
+  Until,
+  for-ever,
+  until,
+  Control as Meant,
+  enter,
+  wait,
+  Worker,
+  System,
+  on-worker,
+  set-mail,
+}
 use Rattle.meaning.specs.Turns.{Taken as Took-up, goes-on, rebind, take-first, timed-out, look-at-mail}
 use Rattle.code.specs.Code.{CodeB, CodeCs}
 use Rattle.machine.specs.Receiving.{due-at, Waited-is}
@@ -38,8 +49,11 @@ record Awaits (x : World) (m : Store) (p : Slot) (a : Site) (cs : Clauses) (w : 
 
 awaits : {x : World} {m : Store} {p : Slot} {a : Site} {cs : Clauses} {u : Until} {w : Scope} →
     ControlIs x m (Wait p a) (wait cs u w) → Awaits x m p a cs w
-awaits (wait-is sc c si) = record { scope = sc; clauses = record { stands = node-left (c .stands); fine = c .fine };
-    site = si }
+awaits (wait-is sc c si) = record {
+  scope = sc;
+  clauses = record { stands = node-left (c .stands); fine = c .fine };
+  site = si;
+}
 awaits (wait-until-is sc c si) =
     record { scope = sc; clauses = record { stands = node-left (c .stands); fine = c .fine .0 }; site = si }
 
@@ -96,15 +110,18 @@ module _ (x : World) (s : System) (me : Worker) {code : List ℕ} {m : Store} {p
       × (m′ .used ≤ m .used + (new-cells h + most-names cs))
   take-found {m′} {l} {r} q is f =
       let t = subst (λ z. Takes z m m′ l b (a .env) (Found r)) (sym e)
-          (subst (λ z. Takes code m m′ l b (a .env) z) is f) .to (clauses-at q) (awaits ci .site .env) h ps in
+      (subst (λ z. Takes code m m′ l b (a .env) z) is f) .to (clauses-at q) (awaits ci .site .env) h ps in
       let si = awaits ci .site .sited in (
         record {
           rest = t .taken .rest;
           control = enter (t .taken .chosen .body) (rebind w (t .taken .chosen .vars));
           is = looked s me cs u w (t .is);
           stands = enter-is (t .chosen-at .scope) (t .chosen-at .body-at)
-              (record { env = t .chosen-at .env-at; sited =
-              record { at-work = si .at-work; there = si .there; home = si .home; version = si .version } });
+              (record {
+                env = t .chosen-at .env-at;
+                sited =
+                    record { at-work = si .at-work; there = si .there; home = si .home; version = si .version };
+              });
           mail = t .mail-at;
         },
         t .count,
@@ -115,9 +132,15 @@ module _ (x : World) (s : System) (me : Worker) {code : List ℕ} {m : Store} {p
       Waited-is x s me cs u w m′ (Waits b′) × (m′ .used ≤ m .used + (new-cells h + most-names cs))
   take-waits {m′} {l} {b′} q d n is f =
       let t = subst (λ z. Takes z m m′ l b (a .env) (Nothing b′)) (sym e)
-          (subst (λ z. Takes code m m′ l b (a .env) z) is f) .to (clauses-at q) (awaits ci .site .env) h ps in
-      (record { is = looked s me cs u w (t .is) ∙ not-due s me u w (sym d ∙ n); mail = t .mail-at; passed =
-          t .passed }, omega (arith, t .count))
+      (subst (λ z. Takes code m m′ l b (a .env) z) is f) .to (clauses-at q) (awaits ci .site .env) h ps in (
+        record {
+          is = looked s me cs u w (t .is) ∙ not-due s me u w (sym d ∙ n);
+          mail = t .mail-at;
+          passed =
+              t .passed;
+        },
+        omega (arith, t .count),
+      )
 
   pub take-late : {m′ : Store} {l i j : Slot} {b′ : Mailbox} {o : Taken} {due : Bool} → l ≡ leftOf code p →
       i ≡ rightOf code p → j ≡ rightOf code i → due ≡ due-at s u → due ≡ true → Kept m m′ → o ≡ Nothing b′ →
@@ -125,9 +148,16 @@ module _ (x : World) (s : System) (me : Worker) {code : List ℕ} {m : Store} {p
       × (m′ .used ≤ m .used + (new-cells h + most-names cs))
   take-late {m′} {l} {i} {j} {b′} q ri rj d n g is f =
       let t = subst (λ z. Takes z m m′ l b (a .env) (Nothing b′)) (sym e)
-          (subst (λ z. Takes code m m′ l b (a .env) z) is f) .to (clauses-at q) (awaits ci .site .env) h ps in
+      (subst (λ z. Takes code m m′ l b (a .env) z) is f) .to (clauses-at q) (awaits ci .site .env) h ps in
       let re : j ≡ rightOf (x .code .words) (rightOf (x .code .words) p) =
-          rj ∙ (ap (rightOf code) ri ∙ ap (λ z. rightOf z (rightOf z p)) (sym e)) in
-      let late = goes-late s me ci re g (sym d ∙ n) in
-      (record { control = late .control; is = looked s me cs u w (t .is) ∙ late .is; stands = late .stands; mail =
-          t .mail-at }, omega (arith, t .count))
+      rj ∙ (ap (rightOf code) ri ∙ ap (λ z. rightOf z (rightOf z p)) (sym e)) in
+      let late = goes-late s me ci re g (sym d ∙ n) in (
+        record {
+          control = late .control;
+          is = looked s me cs u w (t .is) ∙ late .is;
+          stands = late .stands;
+          mail =
+              t .mail-at;
+        },
+        omega (arith, t .count),
+      )

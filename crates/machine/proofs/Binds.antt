@@ -49,17 +49,20 @@ module _ (x : World) (s : System) (me : Worker) {code : List ℕ} {m : Store} {s
       (resume (x .program) s me u (bind-frame q b w ∷ k))
   bind-some {m′} {k} {p} {t} {q} {d} {b} {l} {n} {r} {env} c fs h i j g is f =
       let o = subst (λ z. Matches z m m′ l v (a .env) (Some env)) (sym e)
-          (subst (λ z. Matches code m m′ l v (a .env) z) is f) .to (pattern-in c h) hv (si .env) in
+      (subst (λ z. Matches code m m′ l v (a .env) z) is f) .to (pattern-in c h) hv (si .env) in
       let re : r ≡ rightOf (x .code .words) (rightOf (x .code .words) p) =
-          j ∙ (ap (rightOf code) i ∙ ap (λ z. rightOf z (rightOf z p)) (sym e)) in
+      j ∙ (ap (rightOf code) i ∙ ap (λ z. rightOf z (rightOf z p)) (sym e)) in
       let body : CodeB (x .names) (bound-by q sc) (x .code) r b =
-          subst (λ z. CodeB (x .names) (bound-by q sc) (x .code) z b) (sym re)
-          (record { stands = node-right (node-right (c .stands)); fine = c .fine .2 }) in
+      subst (λ z. CodeB (x .names) (bound-by q sc) (x .code) z b) (sym re)
+      (record { stands = node-right (node-right (c .stands)); fine = c .fine .2 }) in
       subst (λ z. Reached x s me m m′ (names q) (GoesOn (Enter r (record { env = env; section = a .section })) t)
-          (opt z (error k s a-match) (λ bs. goes-on (enter b (rebind w bs)) k s))) (sym (o .is))
-      (record { outcome = goes-on-is (enter-is (bound-by q sc) body
-          (record { env = o .env; sited = rebound (o .bindings) (si .sited) })) (frames-kept g fs); most =
-          omega (arith, o .count) })
+      (opt z (error k s a-match) (λ bs. goes-on (enter b (rebind w bs)) k s))) (sym (o .is))
+      (record {
+        outcome = goes-on-is (enter-is (bound-by q sc) body
+            (record { env = o .env; sited = rebound (o .bindings) (si .sited) })) (frames-kept g fs);
+        most =
+            omega (arith, o .count);
+      })
 
   pub bind-none : {m′ : Store} {k : List Frame} {p t : Slot} {q : Pattern} {d : Expr} {b : Body} {l : Slot}
       {o : Option Slot} → CodeB (x .names) sc (x .code) p (bind q d b) → FramesAt x m t k → l ≡ leftOf code p →
@@ -68,12 +71,15 @@ module _ (x : World) (s : System) (me : Worker) {code : List ℕ} {m : Store} {s
       (resume (x .program) s me u (bind-frame q b w ∷ k))
   bind-none {m′} {k} {p} {t} {q} {d} {b} {l} c fs h g is f =
       let o = subst (λ z. Matches z m m′ l v (a .env) None) (sym e)
-          (subst (λ z. Matches code m m′ l v (a .env) z) is f) .to (pattern-in c h) hv (si .env) in
+      (subst (λ z. Matches code m m′ l v (a .env) z) is f) .to (pattern-in c h) hv (si .env) in
       subst (λ z. Reached x s me m m′ (names q) (GoesOn (Fail (record { kind = 1; low = 1; high = 0 })) t)
-          (opt z (error k s a-match) (λ bs. goes-on (enter b (rebind w bs)) k s))) (sym o)
-      (record { outcome = goes-on-is (fail-is (v-atom a-match)
-          (atom-holds x a-match 1 (x .atoms .match-at) (omega arith))) (frames-kept g fs); most =
-          omega (arith, f .spared is) })
+      (opt z (error k s a-match) (λ bs. goes-on (enter b (rebind w bs)) k s))) (sym o)
+      (record {
+        outcome = goes-on-is (fail-is (v-atom a-match)
+            (atom-holds x a-match 1 (x .atoms .match-at) (omega arith))) (frames-kept g fs);
+        most =
+            omega (arith, f .spared is);
+      })
 
   pub bind-full : {m′ : Store} {p : Slot} {q : Pattern} {d : Expr} {b : Body} {l : Slot} →
       CodeB (x .names) sc (x .code) p (bind q d b) → l ≡ leftOf code p → MatchLacks code m m′ l v (a .env) →
@@ -96,13 +102,15 @@ module _ (x : World) (s : System) (me : Worker) {code : List ℕ} {m : Store} {s
       (resume (x .program) s me u (case-frame cs w ∷ k))
   case-some {m′} {k} {p} {t} {d} {cs} {l} {r} c fs h g is f =
       let o = subst (λ z. Chooses z m m′ l v (a .env) (Some r)) (sym e)
-          (subst (λ z. Chooses code m m′ l v (a .env) z) is f) .to (clauses-in c h) hv (si .env) in
+      (subst (λ z. Chooses code m m′ l v (a .env) z) is f) .to (clauses-in c h) hv (si .env) in
       subst (λ z. Reached x s me m m′ (most-names cs)
-          (GoesOn (Enter (r .body) (record { env = r .env; section = a .section })) t)
-          (opt z (error k s a-clause) (λ q. goes-on (enter (q .body) (rebind w (q .vars))) k s))) (sym (o .is))
-      (record { outcome = goes-on-is (enter-is (o .chosen-at .scope) (o .chosen-at .body-at)
-          (record { env = o .chosen-at .env-at; sited = rebound (o .choice .vars) (si .sited) })) (frames-kept g fs);
-          most = o .count })
+      (GoesOn (Enter (r .body) (record { env = r .env; section = a .section })) t)
+      (opt z (error k s a-clause) (λ q. goes-on (enter (q .body) (rebind w (q .vars))) k s))) (sym (o .is))
+      (record {
+        outcome = goes-on-is (enter-is (o .chosen-at .scope) (o .chosen-at .body-at)
+            (record { env = o .chosen-at .env-at; sited = rebound (o .choice .vars) (si .sited) })) (frames-kept g fs);
+        most = o .count;
+      })
 
   pub case-none : {m′ : Store} {k : List Frame} {p t : Slot} {d : Expr} {cs : Clauses} {l : Slot}
       {o : Option Chosen} → CodeE (x .names) sc (x .code) p (case d cs) → FramesAt x m t k → l ≡ rightOf code p →
@@ -111,12 +119,15 @@ module _ (x : World) (s : System) (me : Worker) {code : List ℕ} {m : Store} {s
       (resume (x .program) s me u (case-frame cs w ∷ k))
   case-none {m′} {k} {p} {t} {d} {cs} {l} c fs h g is f =
       let o = subst (λ z. Chooses z m m′ l v (a .env) None) (sym e)
-          (subst (λ z. Chooses code m m′ l v (a .env) z) is f) .to (clauses-in c h) hv (si .env) in
+      (subst (λ z. Chooses code m m′ l v (a .env) z) is f) .to (clauses-in c h) hv (si .env) in
       subst (λ z. Reached x s me m m′ (most-names cs) (GoesOn (Fail (record { kind = 1; low = 2; high = 0 })) t)
-          (opt z (error k s a-clause) (λ q. goes-on (enter (q .body) (rebind w (q .vars))) k s))) (sym o)
-      (record { outcome = goes-on-is (fail-is (v-atom a-clause)
-          (atom-holds x a-clause 2 (x .atoms .clause-at) (omega arith))) (frames-kept g fs); most =
-          omega (arith, f .spared is) })
+      (opt z (error k s a-clause) (λ q. goes-on (enter (q .body) (rebind w (q .vars))) k s))) (sym o)
+      (record {
+        outcome = goes-on-is (fail-is (v-atom a-clause)
+            (atom-holds x a-clause 2 (x .atoms .clause-at) (omega arith))) (frames-kept g fs);
+        most =
+            omega (arith, f .spared is);
+      })
 
   pub case-full : {m′ : Store} {p : Slot} {d : Expr} {cs : Clauses} {l : Slot} →
       CodeE (x .names) sc (x .code) p (case d cs) → l ≡ rightOf code p → ChoiceLacks code m m′ l v (a .env) →

@@ -7,25 +7,71 @@ use lib.ListN.{length}
 use Rattle.std.specs.declared.result.Result.{Result}
 use Rattle.std.specs.declared.result.Result.the-variants.{Ok, Err}
 use Rattle.meaning.specs.Basics.{Name, opt}
-use Rattle.meaning.specs.Syntax.{Operation as Done, make-tuple, make-pair, call, far-call, spawn, far-spawn, operate,
-    built-in, Expr, Exprs, no-e, and-e}
+use Rattle.meaning.specs.Syntax.{
+  Operation as Done,
+  make-tuple,
+  make-pair,
+  call,
+  far-call,
+  spawn,
+  far-spawn,
+  operate,
+  built-in,
+  Expr,
+  Exprs,
+  no-e,
+  and-e,
+}
 use Rattle.meaning.specs.Values.{Value}
 use Rattle.meaning.specs.System.{Scope, Frame, Worker, System}
 use Rattle.meaning.specs.Turns.{Outcome as Means, stuck, gives, operands, evaluate}
 use Rattle.meaning.specs.Grammar.{count}
 use Rattle.code.specs.Code.{CodeE, CodeEs}
 use Rattle.code.specs.Environment.{Chain, LooksUp}
-use Rattle.code.specs.Instruction.{instruction-at, IsConstant, number-is, atom-is, nil-is, Constantly, InstructionIs,
-    constant-is, variable-is, apply-is, case-is, receive-is, until-is, catch-is}
+use Rattle.code.specs.Instruction.{
+  instruction-at,
+  IsConstant,
+  number-is,
+  atom-is,
+  nil-is,
+  Constantly,
+  InstructionIs,
+  constant-is,
+  variable-is,
+  apply-is,
+  case-is,
+  receive-is,
+  until-is,
+  catch-is,
+}
 use Rattle.code.specs.Trees.{treeO, nothing}
 use Rattle.code.specs.declared.instruction.Instruction.{Instruction}
-use Rattle.code.specs.declared.instruction.Instruction.the-variants.{Constant, Variable, Apply, Case, Receive,
-    ReceiveUntil, Catch, Unknown}
+use Rattle.code.specs.declared.instruction.Instruction.the-variants.{
+  Constant,
+  Variable,
+  Apply,
+  Case,
+  Receive,
+  ReceiveUntil,
+  Catch,
+  Unknown,
+}
 use Rattle.machine.specs.Frames.{Framing}
 use Rattle.machine.specs.Outcomes.{goes-on-is, Reached, Runs}
 use Rattle.machine.specs.Performing.{PerformSim}
-use Rattle.machine.specs.State.{World, SiteIs, FramesAt, operands-at, case-at, until-at, catch-at, eval-is, give-is,
-    enter-is, wait-is}
+use Rattle.machine.specs.State.{
+  World,
+  SiteIs,
+  FramesAt,
+  operands-at,
+  case-at,
+  until-at,
+  catch-at,
+  eval-is,
+  give-is,
+  enter-is,
+  wait-is,
+}
 use Rattle.machine.specs.Steps.{Answer, OperandsSim}
 use Rattle.machine.specs.declared.state.Control.the-variants.{Eval, Give, Enter, Wait}
 use Rattle.machine.specs.declared.state.Outcome.{Outcome}
@@ -72,10 +118,10 @@ module _ (x : World) (s : System) (me : Worker) {m : Store} {k : List Frame} {sc
   operands-end {scratch = scratch} {m′ = m′} {q = q} {o = o} vs no-e r ru p nk c ch h =
       let z : length vs + 0 ≡ length vs = omega arith in
       let d : CodeEs (x .names) sc (x .code) q o (length vs) no-e =
-          subst (λ n. CodeEs (x .names) sc (x .code) q o n no-e) z c in
+      subst (λ n. CodeEs (x .names) sc (x .code) q o n no-e) z c in
       answer-from x s me m m m′ scratch (1 + length vs) (3 + length vs) vs
-          (operands (x .program) k s (me .pid) w o vs no-e) r (omega arith) refl
-          (h .to x s me k o vs w ru p (d .stands) (d .operation) ch (si .sited) fs)
+      (operands (x .program) k s (me .pid) w o vs no-e) r (omega arith) refl
+      (h .to x s me k o vs w ru p (d .stands) (d .operation) ch (si .sited) fs)
   operands-end vs (and-e e es) r ru p nk c ch h = absurd (nk (node-is (c .stands)))
 
   -- one more operand
@@ -88,18 +134,22 @@ module _ (x : World) (s : System) (me : Worker) {m : Store} {k : List Frame} {sc
   operands-more {code} {functions} {m₁} {m₂} {q} {st} {l} {v} {t} {o} vs (and-e d es) ru kq c ch e p g h =
       let n : length vs + count (and-e d es) ≡ length vs + suc (count es) = omega arith in
       let c′ : CodeEs (x .names) sc (x .code) q o (length vs + suc (count es)) (and-e d es) =
-          subst (λ z. CodeEs (x .names) sc (x .code) q o z (and-e d es)) n c in
+      subst (λ z. CodeEs (x .names) sc (x .code) q o z (and-e d es)) n c in
       let le : l ≡ leftOf (x .code .words) q = e ∙ ap (λ z. leftOf z q) (sym (ru .code-is)) in
       let ce : CodeE (x .names) sc (x .code) l d =
-          subst (λ z. CodeE (x .names) sc (x .code) z d) (sym le)
-          (record { stands = node-left (c .stands); fine = c .fine .0 }) in
+      subst (λ z. CodeE (x .names) sc (x .code) z d) (sym le)
+      (record { stands = node-left (c .stands); fine = c .fine .0 }) in
       record {
         outcome = goes-on-is (eval-is sc ce (site-kept g (site-kept (p .kept) si)))
-            (record { tree = _; stands = h .stands (omega arith)
-                (p .stands (omega arith) (si .env .holds .stands) (ch .stands)) (keeps (p .kept) (fs .stands)); are =
-                operands-at sc (si .env .values) vs (placed-operand x c′)
-                (record { sited = si .sited; fine = si .env .holds .fine; binds = si .env .binds }) (ch .fine)
-                (fs .are) });
+            (record {
+              tree = _;
+              stands = h .stands (omega arith)
+                  (p .stands (omega arith) (si .env .holds .stands) (ch .stands)) (keeps (p .kept) (fs .stands));
+              are =
+                  operands-at sc (si .env .values) vs (placed-operand x c′)
+                  (record { sited = si .sited; fine = si .env .holds .fine; binds = si .env .binds }) (ch .fine)
+                  (fs .are);
+            });
         most = omega (arith, p .count, h .count);
       }
 
@@ -119,7 +169,7 @@ module _ (x : World) (s : System) (me : Worker) {m : Store} {k : List Frame} {sc
   evaluate-variable {r = r} (variable-is {y = y} q kn) l =
       let o = l .is y (si .env) kn q in
       subst (λ z. Reached x s me m m 3 (GoesOn (Give r) f) (opt z stuck (gives k s))) (sym (o .1))
-          (record { outcome = goes-on-is (give-is (o .0) (o .2)) fs; most = omega arith })
+      (record { outcome = goes-on-is (give-is (o .0) (o .2)) fs; most = omega arith })
 
   pub evaluate-apply : {code functions scratch : List ℕ} {m′ : Store} {pid : ℕ} {p : Slot} {e : Expr}
       (r : Result Outcome Refusal) → InstructionIs (x .names) sc (x .code) p Apply e → Runs x code functions →
@@ -128,16 +178,20 @@ module _ (x : World) (s : System) (me : Worker) {m : Store} {k : List Frame} {sc
   evaluate-apply {p = p} r (apply-is {o = o} {es = es} c) ru q h =
       let z : 0 + count es ≡ count es = omega arith in
       h .to x s me k sc o [] es w ru q (subst (λ n. CodeEs (x .names) sc (x .code) p o n es) (sym z) c)
-          (record { fine = tt; stands = leaf-stands 2 0 0 (omega arith) }) si fs
+      (record { fine = tt; stands = leaf-stands 2 0 0 (omega arith) }) si fs
 
   pub evaluate-case : {m′ : Store} {p q t : Slot} {e : Expr} → InstructionIs (x .names) sc (x .code) p (Case q) e →
       Kept m m′ → Framing m m′ 34 (p .low) (a .section) (a .env) f t →
       Reached x s me m m′ 3 (GoesOn (Eval q a) t) (evaluate (x .program) k s (me .pid) e w)
   evaluate-case (case-is ce c) g h = record {
     outcome = goes-on-is (eval-is sc ce (site-kept g si))
-        (record { tree = _; stands = h .stands (omega arith) (si .env .holds .stands) (fs .stands); are =
-        case-at sc (si .env .values) (placed-case x c)
-        (record { sited = si .sited; fine = si .env .holds .fine; binds = si .env .binds }) (fs .are) });
+        (record {
+          tree = _;
+          stands = h .stands (omega arith) (si .env .holds .stands) (fs .stands);
+          are =
+              case-at sc (si .env .values) (placed-case x c)
+              (record { sited = si .sited; fine = si .env .holds .fine; binds = si .env .binds }) (fs .are);
+        });
     most = omega (arith, h .count);
   }
 
@@ -147,9 +201,13 @@ module _ (x : World) (s : System) (me : Worker) {m : Store} {k : List Frame} {sc
       Reached x s me m m′ 3 (GoesOn (Eval q a) t) (evaluate (x .program) k s (me .pid) e w)
   evaluate-until (until-is ce c) g h = record {
     outcome = goes-on-is (eval-is sc ce (site-kept g si))
-        (record { tree = _; stands = h .stands (omega arith) (si .env .holds .stands) (fs .stands); are =
-        until-at sc (si .env .values) (placed-until x c)
-        (record { sited = si .sited; fine = si .env .holds .fine; binds = si .env .binds }) (fs .are) });
+        (record {
+          tree = _;
+          stands = h .stands (omega arith) (si .env .holds .stands) (fs .stands);
+          are =
+              until-at sc (si .env .values) (placed-until x c)
+              (record { sited = si .sited; fine = si .env .holds .fine; binds = si .env .binds }) (fs .are);
+        });
     most = omega (arith, h .count);
   }
 
@@ -162,8 +220,12 @@ module _ (x : World) (s : System) (me : Worker) {m : Store} {k : List Frame} {sc
       Reached x s me m m′ 3 (GoesOn (Enter q a) t) (evaluate (x .program) k s (me .pid) e w)
   evaluate-catch (catch-is c) h = record {
     outcome = goes-on-is (enter-is sc c (site-kept (h .kept) si))
-        (record { tree = _; stands = h .stands {s = nothing} (omega arith) (leaf-stands 2 0 0 (omega arith))
-        (fs .stands); are = catch-at (fs .are) });
+        (record {
+          tree = _;
+          stands = h .stands {s = nothing} (omega arith) (leaf-stands 2 0 0 (omega arith))
+              (fs .stands);
+          are = catch-at (fs .are);
+        });
     most = omega (arith, h .count);
   }
 

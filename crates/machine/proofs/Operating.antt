@@ -23,10 +23,30 @@ use Rattle.meaning.specs.Turns.{Outcome as Means, error, gives, truth, number, 
 use Rattle.code.specs.Environment.{Chain}
 use Rattle.code.specs.Operation.{operator-of}
 use Rattle.code.specs.declared.operation.Operator.{Operator}
-use Rattle.code.specs.declared.operation.Operator.the-variants.{Plus, Minus, Times, Divide, Modulo, Equal, Unequal,
-    Less, AtMost}
-use Rattle.machine.specs.Operators.{Leads, Numbers, Divides, Truly, Calculates, AsNumber, SameSim, Apart, Compared,
-    OperateSim, Paired}
+use Rattle.code.specs.declared.operation.Operator.the-variants.{
+  Plus,
+  Minus,
+  Times,
+  Divide,
+  Modulo,
+  Equal,
+  Unequal,
+  Less,
+  AtMost,
+}
+use Rattle.machine.specs.Operators.{
+  Leads,
+  Numbers,
+  Divides,
+  Truly,
+  Calculates,
+  AsNumber,
+  SameSim,
+  Apart,
+  Compared,
+  OperateSim,
+  Paired,
+}
 use Rattle.machine.specs.State.{World, give-is, fail-is}
 use Rattle.machine.specs.declared.state.Control.{Control}
 use Rattle.machine.specs.declared.state.Control.the-variants.{Give, Fail}
@@ -49,18 +69,30 @@ use Rattle.machine.proofs.Stepping.{atom-holds}
 module _ (x : World) (m : Store) where
   pub fails-big : (f : List Frame → System → Means) → ((k : List Frame) (s : System) → f k s ≡ error k s a-big) →
       Leads x m (Fail (record { kind = 1; low = 4; high = 0 })) f
-  fails-big f e = record { control = fail (v-atom a-big); is = e; stands =
-      fail-is (v-atom a-big) (atom-holds x a-big 4 (x .atoms .big-at) (omega arith)) }
+  fails-big f e = record {
+    control = fail (v-atom a-big);
+    is = e;
+    stands =
+        fail-is (v-atom a-big) (atom-holds x a-big 4 (x .atoms .big-at) (omega arith));
+  }
 
   pub fails-zero : (f : List Frame → System → Means) → ((k : List Frame) (s : System) → f k s ≡ error k s a-zero) →
       Leads x m (Fail (record { kind = 1; low = 3; high = 0 })) f
-  fails-zero f e = record { control = fail (v-atom a-zero); is = e; stands =
-      fail-is (v-atom a-zero) (atom-holds x a-zero 3 (x .atoms .zero-at) (omega arith)) }
+  fails-zero f e = record {
+    control = fail (v-atom a-zero);
+    is = e;
+    stands =
+        fail-is (v-atom a-zero) (atom-holds x a-zero 3 (x .atoms .zero-at) (omega arith));
+  }
 
   pub fails-type : (f : List Frame → System → Means) → ((k : List Frame) (s : System) → f k s ≡ error k s a-type) →
       Leads x m (Fail (record { kind = 1; low = 0; high = 0 })) f
-  fails-type f e = record { control = fail (v-atom a-type); is = e; stands =
-      fail-is (v-atom a-type) (atom-holds x a-type 0 (x .atoms .type-at) (omega arith)) }
+  fails-type f e = record {
+    control = fail (v-atom a-type);
+    is = e;
+    stands =
+        fail-is (v-atom a-type) (atom-holds x a-type 0 (x .atoms .type-at) (omega arith));
+  }
 
   -- a number that fits
   gives-number : {n z : ℤ} {s : Slot} (f : List Frame → System → Means) → fits z ≡ true → n ≡ z →
@@ -97,13 +129,21 @@ module _ (x : World) (m : Store) where
 
   pub truth-true : {b : Bool} → b ≡ true → Leads x m (Give (record { kind = 1; low = 13; high = 0 }))
       (λ k t. gives k t (truth b))
-  truth-true {b} h = record { control = give (v-atom a-true); is = λ k t. ap (λ q. gives k t (truth q)) h; stands =
-      give-is (v-atom a-true) (atom-holds x a-true 13 (x .atoms .true-at) (omega arith)) }
+  truth-true {b} h = record {
+    control = give (v-atom a-true);
+    is = λ k t. ap (λ q. gives k t (truth q)) h;
+    stands =
+        give-is (v-atom a-true) (atom-holds x a-true 13 (x .atoms .true-at) (omega arith));
+  }
 
   pub truth-false : {b : Bool} → b ≡ false → Leads x m (Give (record { kind = 1; low = 14; high = 0 }))
       (λ k t. gives k t (truth b))
-  truth-false {b} h = record { control = give (v-atom a-false); is = λ k t. ap (λ q. gives k t (truth q)) h; stands =
-      give-is (v-atom a-false) (atom-holds x a-false 14 (x .atoms .false-at) (omega arith)) }
+  truth-false {b} h = record {
+    control = give (v-atom a-false);
+    is = λ k t. ap (λ q. gives k t (truth q)) h;
+    stands =
+        give-is (v-atom a-false) (atom-holds x a-false 14 (x .atoms .false-at) (omega arith));
+  }
 
   pub truth-as : {b : Bool} {r : Control} (a : Bool) → Truly b r → b ≡ a → Leads x m r (λ k t. gives k t (truth a))
   truth-as {b} {r} a t e = subst (λ (q : Bool). Leads x m r (λ k t. gives k t (truth q))) e (t .to x m)
@@ -164,29 +204,43 @@ calculates-as {o} p {a} {b} {r} e h = subst (λ q. Calculates q a b r) (sym e) h
 -- values that are not both numbers
 pub compared-type : {m : Store} {scratch : List ℕ} {a b : Slot} (o : Operator) → (o ≡ Equal → ⊥) →
     (o ≡ Unequal → ⊥) → Compared m scratch o a b (Ok (Fail (record { kind = 1; low = 0; high = 0 })))
-compared-type {m} Plus e n = record { to =
-    λ x u v hu hv d. fails-type x m
-    (λ k s. operate-on k s plus u v) (not-numbers u v (λ k s a b. number k s (a +ℤ b)) d) }
-compared-type {m} Minus e n = record { to =
-    λ x u v hu hv d. fails-type x m
-    (λ k s. operate-on k s minus u v) (not-numbers u v (λ k s a b. number k s (a -ℤ b)) d) }
-compared-type {m} Times e n = record { to =
-    λ x u v hu hv d. fails-type x m
-    (λ k s. operate-on k s times u v) (not-numbers u v (λ k s a b. number k s (a *ℤ b)) d) }
-compared-type {m} Divide e n = record { to =
-    λ x u v hu hv d. fails-type x m
-    (λ k s. operate-on k s divide u v) (not-numbers u v (λ k s a b. divided k s b (quotient a b)) d) }
-compared-type {m} Modulo e n = record { to =
-    λ x u v hu hv d. fails-type x m
-    (λ k s. operate-on k s modulo u v) (not-numbers u v (λ k s a b. divided k s b (remainder a b)) d) }
+compared-type {m} Plus e n = record {
+  to =
+      λ x u v hu hv d. fails-type x m
+      (λ k s. operate-on k s plus u v) (not-numbers u v (λ k s a b. number k s (a +ℤ b)) d);
+}
+compared-type {m} Minus e n = record {
+  to =
+      λ x u v hu hv d. fails-type x m
+      (λ k s. operate-on k s minus u v) (not-numbers u v (λ k s a b. number k s (a -ℤ b)) d);
+}
+compared-type {m} Times e n = record {
+  to =
+      λ x u v hu hv d. fails-type x m
+      (λ k s. operate-on k s times u v) (not-numbers u v (λ k s a b. number k s (a *ℤ b)) d);
+}
+compared-type {m} Divide e n = record {
+  to =
+      λ x u v hu hv d. fails-type x m
+      (λ k s. operate-on k s divide u v) (not-numbers u v (λ k s a b. divided k s b (quotient a b)) d);
+}
+compared-type {m} Modulo e n = record {
+  to =
+      λ x u v hu hv d. fails-type x m
+      (λ k s. operate-on k s modulo u v) (not-numbers u v (λ k s a b. divided k s b (remainder a b)) d);
+}
 compared-type {m} Equal e n = absurd (e refl)
 compared-type {m} Unequal e n = absurd (n refl)
-compared-type {m} Less e n = record { to =
-    λ x u v hu hv d. fails-type x m
-    (λ k s. operate-on k s less u v) (not-numbers u v (λ k s a b. gives k s (truth (less-int a b))) d) }
-compared-type {m} AtMost e n = record { to =
-    λ x u v hu hv d. fails-type x m
-    (λ k s. operate-on k s at-most u v) (not-numbers u v (λ k s a b. gives k s (truth (not (less-int b a)))) d) }
+compared-type {m} Less e n = record {
+  to =
+      λ x u v hu hv d. fails-type x m
+      (λ k s. operate-on k s less u v) (not-numbers u v (λ k s a b. gives k s (truth (less-int a b))) d);
+}
+compared-type {m} AtMost e n = record {
+  to =
+      λ x u v hu hv d. fails-type x m
+      (λ k s. operate-on k s at-most u v) (not-numbers u v (λ k s a b. gives k s (truth (not (less-int b a)))) d);
+}
 
 pub compared-equal : {m : Store} {scratch : List ℕ} {a b : Slot} {o : Operator} {t : Bool} {r : Control} →
     o ≡ Equal → SameSim m scratch a b (Ok t) → Truly t r → Compared m scratch o a b (Ok r)
@@ -219,13 +273,17 @@ module _ {m : Store} {st one two rest : Slot} (p : two ≡ leftOf (m .words) st)
 
   pub operate-first : {scratch : List ℕ} {o : Operator} {w : Answered Control Refusal} → AsNumber one None →
       Compared m scratch o one two w → OperateSim m scratch o st w
-  operate-first n h = record { to =
-      λ x u v c. h .to x u v (first-held c) (second-held c) (inl (n .is (first-held c))) }
+  operate-first n h = record {
+    to =
+        λ x u v c. h .to x u v (first-held c) (second-held c) (inl (n .is (first-held c)));
+  }
 
   pub operate-second : {scratch : List ℕ} {o : Operator} {w : Answered Control Refusal} → AsNumber two None →
       Compared m scratch o one two w → OperateSim m scratch o st w
-  operate-second n h = record { to =
-      λ x u v c. h .to x u v (first-held c) (second-held c) (inr (n .is (second-held c))) }
+  operate-second n h = record {
+    to =
+        λ x u v c. h .to x u v (first-held c) (second-held c) (inr (n .is (second-held c)));
+  }
 
   pub operate-both : {scratch : List ℕ} {o : Operator} {a b : ℤ} {w : Control} → AsNumber one (Some a) →
       AsNumber two (Some b) → Calculates o (toZ w64 (ofZ w64 a)) (toZ w64 (ofZ w64 b)) w →
@@ -237,11 +295,17 @@ module _ {m : Store} {st one two rest : Slot} (p : two ≡ leftOf (m .words) st)
         let f : fits a ≡ true = subst (Fine (x .names)) e (first-held c .fine) in
         let f′ : fits b ≡ true = subst (Fine (x .names)) e′ (second-held c .fine) in
         subst (λ z. Leads x m w (λ k s. operate-on k s (operator-of o) z v)) (sym e)
-            (subst (λ z. Leads x m w (λ k s. operate-on k s (operator-of o) (v-int a) z)) (sym e′)
-            (both-back (λ a b. Calculates o a b w) a b (sfits a f) (sfits b f′) h .to x m));
+        (subst (λ z. Leads x m w (λ k s. operate-on k s (operator-of o) (v-int a) z)) (sym e′)
+        (both-back (λ a b. Calculates o a b w) a b (sfits a f) (sfits b f′) h .to x m));
   }
 
   -- a pair of the two
   pub pair-made : {m′ : Store} {s : Slot} → Put m m′ 16 one two s → Paired m m′ st s
-  pair-made h = record { holds = λ c. record { fine = (c .fine .1 .0, c .fine .0); stands =
-      h .stands (omega arith) (first-held c .stands) (second-held c .stands) }; count = h .count }
+  pair-made h = record {
+    holds = λ c. record {
+      fine = (c .fine .1 .0, c .fine .0);
+      stands =
+          h .stands (omega arith) (first-held c .stands) (second-held c .stands);
+    };
+    count = h .count;
+  }

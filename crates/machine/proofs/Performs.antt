@@ -20,15 +20,35 @@ use Rattle.meaning.specs.Turns.{enter-function, call-code, spawn-code, call-bui
 use Rattle.code.specs.Environment.{Chain}
 use Rattle.code.specs.Fine.{FineO}
 use Rattle.code.specs.Function.{Finds, FunctionIs, no-function-is, function-is}
-use Rattle.code.specs.Operation.{builtin-of, operation-at, OperationIs, make-tuple-is, make-pair-is, call-is,
-    spawn-is, far-call-is, far-spawn-is, operate-is, built-in-is}
+use Rattle.code.specs.Operation.{
+  builtin-of,
+  operation-at,
+  OperationIs,
+  make-tuple-is,
+  make-pair-is,
+  call-is,
+  spawn-is,
+  far-call-is,
+  far-spawn-is,
+  operate-is,
+  built-in-is,
+}
 use Rattle.code.specs.Trees.{treeO}
 use Rattle.code.specs.declared.operation.Builtin.{Builtin}
 use Rattle.code.specs.declared.operation.Builtin.the-variants.{Itself, Exit}
 use Rattle.code.specs.declared.operation.Far.{Far}
 use Rattle.code.specs.declared.operation.Operation.{Operation}
-use Rattle.code.specs.declared.operation.Operation.the-variants.{MakeTuple, MakePair, Call, Spawn, FarCall, FarSpawn,
-    Operate, BuiltIn, Unknown}
+use Rattle.code.specs.declared.operation.Operation.the-variants.{
+  MakeTuple,
+  MakePair,
+  Call,
+  Spawn,
+  FarCall,
+  FarSpawn,
+  Operate,
+  BuiltIn,
+  Unknown,
+}
 use Rattle.code.specs.declared.operation.Operator.{Operator}
 use Rattle.machine.specs.Frames.{Grows}
 use Rattle.machine.specs.Operators.{OperateSim, Paired}
@@ -69,10 +89,20 @@ pub record Gathers (m₀ m : Store) (st rest t : Slot) : Type 0 where
   pub to : {ns : List Name} (vs : List Value) → Chain ns m₀ st (reverse vs) → Gathered ns m₀ m rest t vs
 
 pub gather-starts : {m : Store} {st : Slot} → Grows m m → Gathers m m st st (record { kind = 4; low = 0; high = 0 })
-gather-starts g = record { grows = g; to =
-    λ vs c. record { ahead = reverse vs; done = []; is =
-    sym (append-nil (reverse (reverse vs)) ∙ reverse-reverse vs); chain = c; held =
-    record { fine = tt; stands = leaf-stands 4 0 0 (omega arith) }; count = omega arith } }
+gather-starts g = record {
+  grows = g;
+  to =
+      λ vs c. record {
+        ahead = reverse vs;
+        done = [];
+        is =
+            sym (append-nil (reverse (reverse vs)) ∙ reverse-reverse vs);
+        chain = c;
+        held =
+            record { fine = tt; stands = leaf-stands 4 0 0 (omega arith) };
+        count = omega arith;
+      };
+}
 
 -- the chain has ended where its kind says so
 ahead-none : {ns : List Name} {m : Store} {s : Slot} (us : List Value) → Chain ns m s us → (s .kind ≡ 31 → ⊥) →
@@ -97,9 +127,12 @@ gather-on {m₀} {m} {m′} {st} {rest} {t} {v} {next} {t′} gs k e n g p =
           is = q ∙ (ap (λ z. z ++ d .done) (reverse-cons u us) ∙ append-assoc (reverse us) (u ∷ []) (d .done));
           chain = subst (λ z. Chain ns m′ z us) (sym n)
               (chain-kept (p .kept) (record { fine = c .fine .1; stands = node-right (c .stands) }));
-          held = record { fine = (c .fine .0, d .held .fine); stands =
-              p .stands (omega arith) (subst (λ z. Den m z (treeV ns u)) (sym e) (node-left (c .stands)))
-              (d .held .stands) };
+          held = record {
+            fine = (c .fine .0, d .held .fine);
+            stands =
+                p .stands (omega arith) (subst (λ z. Den m z (treeV ns u)) (sym e) (node-left (c .stands)))
+                (d .held .stands);
+          };
           count = omega (arith, p .count, d .count);
         }
 
@@ -129,7 +162,7 @@ not-gathered {m₀} {m} {m′} {st} {rest} {t} gs k l = record { short = λ {ns}
         go [] q c = absurd (omega (arith, k, leaf-has-kind (c .stands)))
         go (u ∷ us) q c =
             let z = ap length q ∙ (length-append (reverse (u ∷ us)) (d .done) ∙ ap
-                (λ n. n + length (d .done)) (length-reverse (u ∷ us))) in
+            (λ n. n + length (d .done)) (length-reverse (u ∷ us))) in
             omega (arith, z, d .count, l .short, gs .grows .long)
 
 -- a function's body
@@ -138,8 +171,8 @@ found-in : {code functions : List ℕ} {n i c : ℕ} {r : Option Slot} (x : Worl
     i ≡ indexOf (x .names) y → FunctionIs (x .names) (x .code) c r (function-of (sw .at-work .functions) y c)
 found-in {code} {functions} {n} {i} {c} {r} x y w f q sw kn ix =
     let h : Finds (x .code .words) (x .functions) n i c r =
-        subst (λ z. Finds (x .code .words) z n i c r) (sym (q .functions-is))
-        (subst (λ z. Finds z functions n i c r) (sym (q .code-is)) f) in
+    subst (λ z. Finds (x .code .words) z n i c r) (sym (q .functions-is))
+    (subst (λ z. Finds z functions n i c r) (sym (q .code-is)) f) in
     h .is y (x .stands) (sw .there) kn ix
 
 functions-here : {n : ℕ} (x : World) (w : Scope) (sw : Sited (x .program) n w) →
@@ -147,14 +180,18 @@ functions-here : {n : ℕ} (x : World) (w : Scope) (sw : Sited (x .program) n w)
 functions-here {n} x w sw =
     subst (λ h. functions-of (x .program) h (w .version) ≡ some (sw .at-work .functions)) (sym (sw .home))
     (subst (λ v. functions-of (x .program) (sw .at-work .name) v ≡ some (sw .at-work .functions)) (sym (sw .version))
-        (functions-at (x .program) n (sw .there)))
+    (functions-at (x .program) n (sw .there)))
 
 enters : {m : Store} {n c : ℕ} {st : Slot} {r : Option Slot} {o : Maybe Function} (x : World) (vs : List Value)
     (w : Scope) → Sited (x .program) n w → c ≡ length vs → Chain (x .names) m st (reverse vs) →
     FunctionIs (x .names) (x .code) c r o →
     Enters x m (entered st n r) (on-some o
-    (λ fn. some (enter (fn .body) (record { vars = bind-params (fn .params) vs; home = w .home; version =
-    w .version }))))
+    (λ fn. some (enter (fn .body) (record {
+      vars = bind-params (fn .params) vs;
+      home = w .home;
+      version =
+          w .version;
+    }))))
 enters x vs w sw ct ch no-function-is = no-entry
 enters x vs w sw ct ch (function-is {f = f} len diff cb) = entry (enter-is (reverse (f .params)) cb (record {
   env = record { values = reverse vs; holds = ch; binds = operands-bind (f .params) vs diff (sym ct ∙ sym len) };
@@ -167,14 +204,22 @@ enter-as {code} {functions} {n} {i} {c} {st} {r} {e} q f = record {
   to = λ x {m} y vs w ru sw kn ix ct ch.
       let o = enters x vs w sw ct ch (found-in x y w f ru sw kn ix) in
       let fits = ap (λ fs. on-some fs
-          (λ gs. on-some (function-of gs y (length vs))
-          (λ fn. some (enter (fn .body) (record { vars = bind-params (fn .params) vs; home = w .home; version =
-          w .version }))))) (functions-here x w sw) in
+      (λ gs. on-some (function-of gs y (length vs))
+      (λ fn. some (enter (fn .body) (record {
+        vars = bind-params (fn .params) vs;
+        home = w .home;
+        version =
+            w .version;
+      }))))) (functions-here x w sw) in
       subst (λ z. Enters x m z (enter-function (x .program) (w .home) (w .version) y vs)) (sym q)
-          (subst (Enters x m (entered st n r)) (sym fits)
-          (subst (λ j. Enters x m (entered st n r) (on-some (function-of (sw .at-work .functions) y j)
-          (λ fn. some (enter (fn .body) (record { vars = bind-params (fn .params) vs; home = w .home; version =
-          w .version }))))) ct o));
+      (subst (Enters x m (entered st n r)) (sym fits)
+      (subst (λ j. Enters x m (entered st n r) (on-some (function-of (sw .at-work .functions) y j)
+      (λ fn. some (enter (fn .body) (record {
+        vars = bind-params (fn .params) vs;
+        home = w .home;
+        version =
+            w .version;
+      }))))) ct o));
 }
 
 -- built-in functions
@@ -226,8 +271,11 @@ module _ (x : World) (s : System) (me : Worker) {m : Store} {k : List Frame} (w 
       Tupled m m′ st r → Reached x s me m m′ (1 + length vs) (GoesOn (Give r) f)
       (perform (x .program) k s (me .pid) w o vs)
   perform-tuple vs make-tuple-is ch g t =
-      record { outcome = goes-on-is (give-is _ (t .holds vs ch)) (frames-kept g fs); most =
-      omega (arith, t .count vs ch) }
+      record {
+        outcome = goes-on-is (give-is _ (t .holds vs ch)) (frames-kept g fs);
+        most =
+            omega (arith, t .count vs ch);
+      }
 
   pub perform-pair : {st : Slot} {m′ : Store} {r : Slot} {o : Done} (vs : List Value) →
       OperationIs (x .names) MakePair o (length vs) → Chain (x .names) m st (reverse vs) → Kept m m′ →
@@ -245,8 +293,11 @@ module _ (x : World) (s : System) (me : Worker) {m : Store} {k : List Frame} (w 
 
   not-called : {o : Maybe Meant} (j : ℕ) → Enters x m None o →
       Reached x s me m m j (GoesOn (Fail (record { kind = 1; low = 5; high = 0 })) f) (call-code k s o)
-  not-called j no-entry = record { outcome =
-      goes-on-is (fail-is _ (atom-holds x a-undef 5 (x .atoms .undef-at) (omega arith))) fs; most = omega arith }
+  not-called j no-entry = record {
+    outcome =
+        goes-on-is (fail-is _ (atom-holds x a-undef 5 (x .atoms .undef-at) (omega arith))) fs;
+    most = omega arith;
+  }
 
   spawned : {c : Control} {o : Maybe Meant} (j : ℕ) → Enters x m (Some c) o →
       Reached x s me m m j (Spawns c f) (spawn-code k s o)
@@ -254,8 +305,11 @@ module _ (x : World) (s : System) (me : Worker) {m : Store} {k : List Frame} (w 
 
   not-spawned : {o : Maybe Meant} (j : ℕ) → Enters x m None o →
       Reached x s me m m j (GoesOn (Fail (record { kind = 1; low = 5; high = 0 })) f) (spawn-code k s o)
-  not-spawned j no-entry = record { outcome =
-      goes-on-is (fail-is _ (atom-holds x a-undef 5 (x .atoms .undef-at) (omega arith))) fs; most = omega arith }
+  not-spawned j no-entry = record {
+    outcome =
+        goes-on-is (fail-is _ (atom-holds x a-undef 5 (x .atoms .undef-at) (omega arith))) fs;
+    most = omega arith;
+  }
 
   module _ {code functions : List ℕ} {n : ℕ} (q : Runs x code functions) (sw : Sited (x .program) n w) where
     pub perform-call : {st : Slot} {i c : ℕ} {b : Control} {o : Done} (vs : List Value) →
@@ -303,7 +357,7 @@ module _ (x : World) (s : System) (me : Worker) {m : Store} {k : List Frame} (w 
   perform-operate {c = c} (u ∷ v ∷ []) (operate-is p e) ch h =
       let l = h .to x u v ch in
       subst (λ z. Reached x s me m m 3 (GoesOn c f) z) (sym (l .is k s))
-          (record { outcome = goes-on-is (l .stands) fs; most = omega arith })
+      (record { outcome = goes-on-is (l .stands) fs; most = omega arith })
   perform-operate (u ∷ v ∷ v′ ∷ vs) (operate-is p e) ch h = absurd (omega (arith, e))
 
   pub perform-large : {st : Slot} {scratch : List ℕ} {p : Operator} {e : Refusal} {o : Done} (vs : List Value) →

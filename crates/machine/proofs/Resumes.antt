@@ -52,17 +52,17 @@ operand-added {code} {functions} {scratch} {m} {m₁} {m′} {pid} {v} {p} {u} {
       let n : length vs + suc (count es) ≡ length (vs ++ (b ∷ [])) + count es = omega (arith, length-push vs b) in
       let re : rest ≡ rightOf (x .code .words) p = e ∙ ap (λ z. rightOf z p) (sym (q .code-is)) in
       let next : CodeEs (x .names) sc (x .code) (rightOf (x .code .words) p) d (length vs + suc (count es)) es =
-          record { stands = node-right (ce .stands); operation = ce .operation; fine = ce .fine .1 } in
+      record { stands = node-right (ce .stands); operation = ce .operation; fine = ce .fine .1 } in
       let here : CodeEs (x .names) sc (x .code) rest d (length (vs ++ (b ∷ [])) + count es) es =
-          subst (λ z. CodeEs (x .names) sc (x .code) z d (length (vs ++ (b ∷ [])) + count es) es) (sym re)
-          (subst (λ z. CodeEs (x .names) sc (x .code) (rightOf (x .code .words) p) d z es) n next) in
+      subst (λ z. CodeEs (x .names) sc (x .code) z d (length (vs ++ (b ∷ [])) + count es) es) (sym re)
+      (subst (λ z. CodeEs (x .names) sc (x .code) (rightOf (x .code .words) p) d z es) n next) in
       let more : Chain (x .names) m₁ all (b ∷ reverse vs) =
-          record { fine = (hv .fine, ch .fine); stands = h .stands (omega arith) (hv .stands) (ch .stands) } in
+      record { fine = (hv .fine, ch .fine); stands = h .stands (omega arith) (hv .stands) (ch .stands) } in
       let turned : Chain (x .names) m₁ all (reverse (vs ++ (b ∷ []))) =
-          subst (Chain (x .names) m₁ all) (sym (reverse-append vs (b ∷ []))) more in
+      subst (Chain (x .names) m₁ all) (sym (reverse-append vs (b ∷ []))) more in
       answer-from x s me m m₁ m′ scratch (3 + length (vs ++ (b ∷ []))) (5 + length vs) (vs ++ (b ∷ []))
-          (operands (x .program) k s (me .pid) w d (vs ++ (b ∷ [])) es) r (omega (arith, h .count, length-push vs b))
-          l
+      (operands (x .program) k s (me .pid) w d (vs ++ (b ∷ [])) es) r (omega (arith, h .count, length-push vs b))
+      l
       (o .to x s me k sc d (vs ++ (b ∷ [])) es w q i here turned (site-kept (h .kept) si) (frames-kept (h .kept) fs));
 }
 
@@ -92,16 +92,18 @@ held-back {v} {z} {ns} n hv = toZ-ofZ w64 z (sfits z (subst (Fine ns) (n .is hv)
 
 module _ {v p t : Slot} {a : Site} where
   pub time-no-number : AsNumber v None → TimeSim v p a t (GoesOn (Fail (record { kind = 1; low = 0; high = 0 })) t)
-  time-no-number n = record { to =
-      λ x s me k sc cs e b w u hv ce si fs. no-time x s me k cs b w u fs
-      (ap (λ o. opt o (error k s a-type) (wait-until k s cs b w)) (n .is hv)) }
+  time-no-number n = record {
+    to =
+        λ x s me k sc cs e b w u hv ce si fs. no-time x s me k cs b w u fs
+        (ap (λ o. opt o (error k s a-type) (wait-until k s cs b w)) (n .is hv));
+  }
 
   pub time-below : {z : ℤ} → AsNumber v (Some z) → ltZ (toZ w64 (ofZ w64 z)) (pos 0) ≡ true →
       TimeSim v p a t (GoesOn (Fail (record { kind = 1; low = 0; high = 0 })) t)
   time-below {z} n h = record {
     to = λ x {m} s me k sc cs e b w u hv ce si fs.
         no-time x s me k cs b w u fs (ap (λ o. opt (as-int o) (error k s a-type) (wait-until k s cs b w)) (n .is hv)
-            ∙ below z (subst (λ q. ltZ q (pos 0) ≡ true) (held-back n hv) h) k s cs b w);
+        ∙ below z (subst (λ q. ltZ q (pos 0) ≡ true) (held-back n hv) h) k s cs b w);
   }
 
   pub time-waits : {z : ℤ} {d : ℕ} → AsNumber v (Some z) → ltZ (toZ w64 (ofZ w64 z)) (pos 0) ≡ false →
@@ -111,5 +113,5 @@ module _ {v p t : Slot} {a : Site} where
         let back = held-back n hv in
         let g : z ≡ pos d = at-least z (subst (λ q. ltZ q (pos 0) ≡ false) back h) (q ∙ ap (ofZ w64) back) in
         subst (λ o. OutcomeIs x s me m (WaitsFor p a d t) (resume (x .program) s me o (until-frame cs b w ∷ k)))
-            (sym (n .is hv ∙ ap v-int g)) (waits-for-is sc ce si fs);
+        (sym (n .is hv ∙ ap v-int g)) (waits-for-is sc ce si fs);
   }

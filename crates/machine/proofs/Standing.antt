@@ -11,10 +11,33 @@ use Rattle.meaning.specs.System.{Scope, Frame as Waiting}
 use Rattle.meaning.specs.Grammar.{count}
 use Rattle.code.specs.Code.{CodeE, CodeEs, CodeB}
 use Rattle.code.specs.Environment.{Chain}
-use Rattle.machine.specs.Frames.{Grows, Framing, frame-of, frame-at, FrameIs, operands-is, bind-is, case-is, until-is,
-    catch-is, bottom-is}
-use Rattle.machine.specs.State.{World, Sited, SiteIs, placed, FramesAre, no-frames, operands-at, bind-at, case-at,
-    until-at, catch-at, FramesAt}
+use Rattle.machine.specs.Frames.{
+  Grows,
+  Framing,
+  frame-of,
+  frame-at,
+  FrameIs,
+  operands-is,
+  bind-is,
+  case-is,
+  until-is,
+  catch-is,
+  bottom-is,
+}
+use Rattle.machine.specs.State.{
+  World,
+  Sited,
+  SiteIs,
+  placed,
+  FramesAre,
+  no-frames,
+  operands-at,
+  bind-at,
+  case-at,
+  until-at,
+  catch-at,
+  FramesAt,
+}
 use Rattle.machine.specs.declared.frames.Frame.{Frame}
 use Rattle.machine.specs.declared.state.Site.{Site}
 use Rattle.store.specs.Heap.{Store, Den, Kept, Put, Lacks, leftOf}
@@ -43,8 +66,15 @@ chain-kept g c = record { fine = c .fine; stands = keeps g (c .stands) }
 
 pub site-kept : {x : World} {m m′ : Store} {sc : List Name} {a : Site} {w : Scope} → Kept m m′ → SiteIs x m sc a w →
     SiteIs x m′ sc a w
-site-kept g s = record { env = record { values = s .env .values; holds = chain-kept g (s .env .holds); binds =
-    s .env .binds }; sited = s .sited }
+site-kept g s = record {
+  env = record {
+    values = s .env .values;
+    holds = chain-kept g (s .env .holds);
+    binds =
+        s .env .binds;
+  };
+  sited = s .sited;
+}
 
 pub frames-kept : {x : World} {m m′ : Store} {s : Slot} {k : List Waiting} → Kept m m′ → FramesAt x m s k →
     FramesAt x m′ s k
@@ -54,9 +84,12 @@ frames-kept g f = record { tree = f .tree; stands = keeps g (f .stands); are = f
 pub framing : {m m₁ m₂ : Store} {kind p n : ℕ} {values below r part : Slot} →
     Put m m₁ 37 (record { kind = 5; low = p; high = n }) values part → Put m₁ m₂ kind part below r →
     Framing m m₂ kind p n values below r
-framing p q = record { stands =
-    λ k d e. q .stands k (p .stands (omega arith) (leaf-stands _ _ _ (omega arith)) d) (keeps (p .kept) e); count =
-    omega (arith, p .count, q .count) }
+framing p q = record {
+  stands =
+      λ k d e. q .stands k (p .stands (omega arith) (leaf-stands _ _ _ (omega arith)) d) (keeps (p .kept) e);
+  count =
+      omega (arith, p .count, q .count);
+}
 
 -- the node of the code that a frame's place says
 node-placed : (x : World) {s : Slot} {k : ℕ} {a b : Tree} → Den (x .code) s (node k a b) → s ≡ placed k (s .low)
@@ -106,33 +139,58 @@ frame-is {x} {m} {s} f = go (f .are) (f .stands)
     go (operands-at {t = t} sc us vs {o = o} {e = e} {es = es} c fr fv r) d =
         let at = node-left (node-left d) in
         tells (node-is d) (operands-is sc vs
-            (subst (λ z. CodeEs (x .names) sc (x .code) (placed 18 z) o (length vs + suc (count es)) (and-e e es))
-            (sym (leaf-has-low at)) c)
-        (record { env = record { values = us; holds =
-            record { fine = fr .fine; stands = node-left (node-right (node-left d)) }; binds = fr .binds }; sited =
-            sited at (fr .sited) })
+        (subst (λ z. CodeEs (x .names) sc (x .code) (placed 18 z) o (length vs + suc (count es)) (and-e e es))
+        (sym (leaf-has-low at)) c)
+        (record {
+          env = record {
+            values = us;
+            holds =
+                record { fine = fr .fine; stands = node-left (node-right (node-left d)) };
+            binds = fr .binds;
+          };
+          sited =
+              sited at (fr .sited);
+        })
         (record { fine = fv; stands = node-right (node-right (node-left d)) })
         (record { tree = t; stands = node-right d; are = r }))
     go (bind-at {t = t} sc us {a = a} {e = e} {b = b} c fr r) d =
         let at = node-left (node-left d) in
         tells (node-is d) (bind-is sc (subst
-            (λ z. CodeB (x .names) sc (x .code) (placed 25 z) (bind a e b)) (sym (leaf-has-low at)) c)
-        (record { env = record { values = us; holds = record { fine = fr .fine; stands = node-right (node-left d) };
-            binds = fr .binds }; sited = sited at (fr .sited) })
+        (λ z. CodeB (x .names) sc (x .code) (placed 25 z) (bind a e b)) (sym (leaf-has-low at)) c)
+        (record {
+          env = record {
+            values = us;
+            holds = record { fine = fr .fine; stands = node-right (node-left d) };
+            binds = fr .binds;
+          };
+          sited = sited at (fr .sited);
+        })
         (record { tree = t; stands = node-right d; are = r }))
     go (case-at {t = t} sc us {e = e} {cs = cs} c fr r) d =
         let at = node-left (node-left d) in
         tells (node-is d) (case-is sc (subst
-            (λ z. CodeE (x .names) sc (x .code) (placed 20 z) (case e cs)) (sym (leaf-has-low at)) c)
-        (record { env = record { values = us; holds = record { fine = fr .fine; stands = node-right (node-left d) };
-            binds = fr .binds }; sited = sited at (fr .sited) })
+        (λ z. CodeE (x .names) sc (x .code) (placed 20 z) (case e cs)) (sym (leaf-has-low at)) c)
+        (record {
+          env = record {
+            values = us;
+            holds = record { fine = fr .fine; stands = node-right (node-left d) };
+            binds = fr .binds;
+          };
+          sited = sited at (fr .sited);
+        })
         (record { tree = t; stands = node-right d; are = r }))
     go (until-at {t = t} sc us {cs = cs} {e = e} {b = b} c fr r) d =
         let at = node-left (node-left d) in
         tells (node-is d) (until-is sc (subst
-            (λ z. CodeE (x .names) sc (x .code) (placed 22 z) (receive-until cs e b)) (sym (leaf-has-low at)) c)
-        (record { env = record { values = us; holds = record { fine = fr .fine; stands = node-right (node-left d) };
-            binds = fr .binds }; sited = sited at (fr .sited) })
+        (λ z. CodeE (x .names) sc (x .code) (placed 22 z) (receive-until cs e b)) (sym (leaf-has-low at)) c)
+        (record {
+          env = record {
+            values = us;
+            holds = record { fine = fr .fine; stands = node-right (node-left d) };
+            binds = fr .binds;
+          };
+          sited = sited at (fr .sited);
+        })
         (record { tree = t; stands = node-right d; are = r }))
     go (catch-at {t = t} r) d = tells (node-is d) (catch-is (record { tree = t; stands = node-right d; are = r }))
 

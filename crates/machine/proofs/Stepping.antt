@@ -55,7 +55,7 @@ module _ (x : World) (s : System) (me : Worker) {m : Store} {k : List Waiting} {
       {w : Scope} → Statement q ≡ start-at code p → x .code .words ≡ code → CodeB (x .names) sc (x .code) p b →
       SiteIs x m sc a w → FramesAt x m f k →
       Kept m m′ → Framing m m′ 33 (p .low) (a .section) (a .env) f r →
-          Reached x s me m m′ 2 (GoesOn (Eval q a) r) (begin-body k s b w)
+      Reached x s me m m′ 2 (GoesOn (Eval q a) r) (begin-body k s b w)
   begin-statement {m′} {code} {p} {q} {r} {a} {sc} {b} {w} e c cb si fs g h =
       go (start-as (e ∙ ap (λ z. start-at z p) (sym c)) cb)
     where
@@ -63,9 +63,13 @@ module _ (x : World) (s : System) (me : Worker) {m : Store} {k : List Waiting} {
           Reached x s me m m′ 2 (GoesOn (Eval q a) r) (begin-body k s b w)
       go (statement-is ce cb) = record {
         outcome = goes-on-is (eval-is sc ce (site-kept g si))
-            (record { tree = _; stands = h .stands (omega arith) (si .env .holds .stands) (fs .stands); are =
-            bind-at sc (si .env .values) (placed-statement x cb)
-            (record { sited = si .sited; fine = si .env .holds .fine; binds = si .env .binds }) (fs .are) });
+            (record {
+              tree = _;
+              stands = h .stands (omega arith) (si .env .holds .stands) (fs .stands);
+              are =
+                  bind-at sc (si .env .values) (placed-statement x cb)
+                  (record { sited = si .sited; fine = si .env .holds .fine; binds = si .env .binds }) (fs .are);
+            });
         most = omega (arith, h .count);
       }
 
@@ -105,15 +109,21 @@ module _ (x : World) (s : System) (me : Worker) {m : Store} {v : Slot} (u : Valu
       Tagged m m′ (record { kind = 1; low = 10; high = 0 }) v r →
       Reached x s me m m′ 2 (GoesOn (Give r) t) (unwind s me u k)
   unwind-catch (catch-is fs) g h =
-      record { outcome = goes-on-is (give-is _
-      (h .holds (atom-holds x a-error 10 (x .atoms .error-at) (omega arith)) hv)) (frames-kept g fs); most =
-      omega (arith, h .count) }
+      record {
+        outcome = goes-on-is (give-is _
+            (h .holds (atom-holds x a-error 10 (x .atoms .error-at) (omega arith)) hv)) (frames-kept g fs);
+        most =
+            omega (arith, h .count);
+      }
 
 pub tagged : {m m₁ m₂ : Store} {a v r q : Slot} → Put m m₁ 17 v (record { kind = 4; low = 0; high = 0 }) q →
     Put m₁ m₂ 17 a q r → Tagged m m₂ a v r
 tagged p q = record {
-  holds = λ ha hv. record { fine = (ha .fine, (hv .fine, tt)); stands =
-      q .stands (omega arith) (keeps (p .kept) (ha .stands))
-      (p .stands (omega arith) (hv .stands) (leaf-stands 4 0 0 (omega arith))) };
+  holds = λ ha hv. record {
+    fine = (ha .fine, (hv .fine, tt));
+    stands =
+        q .stands (omega arith) (keeps (p .kept) (ha .stands))
+        (p .stands (omega arith) (hv .stands) (leaf-stands 4 0 0 (omega arith)));
+  };
   count = omega (arith, p .count, q .count);
 }

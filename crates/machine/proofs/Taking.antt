@@ -14,8 +14,17 @@ use Rattle.machine.specs.Binding.{BindSim, CaseSim}
 use Rattle.machine.specs.Frames.{FrameIs, operands-is, bind-is, case-is, until-is, catch-is, bottom-is}
 use Rattle.machine.specs.Outcomes.{goes-on-is, ended-is, Reached, Runs}
 use Rattle.machine.specs.Resuming.{OperandSim, TimeSim}
-use Rattle.machine.specs.State.{World, FramesAt, ControlIs, eval-is, give-is, enter-is, fail-is, wait-is,
-    wait-until-is}
+use Rattle.machine.specs.State.{
+  World,
+  FramesAt,
+  ControlIs,
+  eval-is,
+  give-is,
+  enter-is,
+  fail-is,
+  wait-is,
+  wait-until-is,
+}
 use Rattle.machine.specs.Steps.{Answer, EvaluateSim, BeginSim, UnwindSim, Tagged}
 use Rattle.machine.specs.Turning.{resume-cost, resume-operands, Awake, ResumeSim, Turned, TurnSim}
 use Rattle.machine.specs.declared.frames.Frame.the-variants.{Operands, Bind, Case, Until, Catch, Bottom}
@@ -71,8 +80,11 @@ module _ (x : World) (s : System) (me : Worker) {m : Store} {v : Slot} (u : Valu
       Tagged m m′ (record { kind = 1; low = 9; high = 0 }) v r →
       Reached x s me m m′ (resume-cost k) (GoesOn (Give r) t) (resume (x .program) s me u k)
   resume-catch (catch-is fs) g h =
-      record { outcome = goes-on-is (give-is _ (h .holds (atom-holds x a-ok 9 (x .atoms .ok-at) (omega arith)) hv))
-      (frames-kept g fs); most = omega (arith, h .count) }
+      record {
+        outcome = goes-on-is (give-is _ (h .holds (atom-holds x a-ok 9 (x .atoms .ok-at) (omega arith)) hv))
+            (frames-kept g fs);
+        most = omega (arith, h .count);
+      }
 
   pub resume-catch-full : {k : List Waiting} {t : Slot} → FrameIs x m (Catch t) k →
       length (m .words) < 6 * (m .used + 2) → length (m .words) < 6 * (m .used + resume-cost k)
@@ -81,8 +93,11 @@ module _ (x : World) (s : System) (me : Worker) {m : Store} {v : Slot} (u : Valu
   pub resume-bottom : {k : List Waiting} → FrameIs x m Bottom k →
       Reached x s me m m (resume-cost k) (Ended (record { kind = 1; low = 6; high = 0 }))
       (resume (x .program) s me u k)
-  resume-bottom bottom-is = record { outcome =
-      ended-is (v-atom a-normal) (atom-holds x a-normal 6 (x .atoms .normal-at) (omega arith)); most = omega arith }
+  resume-bottom bottom-is = record {
+    outcome =
+        ended-is (v-atom a-normal) (atom-holds x a-normal 6 (x .atoms .normal-at) (omega arith));
+    most = omega arith;
+  }
 
 -- the control
 module _ (x : World) (s : System) (me : Worker) {m m′ : Store} {code functions scratch : List ℕ} {f : Slot}
@@ -99,13 +114,21 @@ module _ (x : World) (s : System) (me : Worker) {m m′ : Store} {code functions
   pub turn-enter : {p : Slot} {a : Site} {c : Meant} → ControlIs x m (Enter p a) c → BeginSim code m m′ p a f r →
       Turned x s me c m m′ scratch r
   turn-enter (enter-is sc {b = b} {w = w} cb si) h =
-      record { meaning = _; is = refl; answer =
-      unlent x s me m m′ scratch 2 _ r (h .to x s me (me .frames) sc b w (q .code-is) cb si fs) }
+      record {
+        meaning = _;
+        is = refl;
+        answer =
+            unlent x s me m m′ scratch 2 _ r (h .to x s me (me .frames) sc b w (q .code-is) cb si fs);
+      }
 
   pub turn-fail : {v : Slot} {c : Meant} → ControlIs x m (Fail v) c → UnwindSim m m′ v f r →
       Turned x s me c m m′ scratch r
-  turn-fail (fail-is v hv) h = record { meaning = _; is = refl; answer =
-      unlent x s me m m′ scratch 2 _ r (h .to x s me (me .frames) v hv fs) }
+  turn-fail (fail-is v hv) h = record {
+    meaning = _;
+    is = refl;
+    answer =
+        unlent x s me m m′ scratch 2 _ r (h .to x s me (me .frames) v hv fs);
+  }
 
 pub turn-wait : {x : World} {m : Store} {p : Slot} {a : Site} {c : Meant} {A : Type 0} → ControlIs x m (Wait p a) c →
     Awake c → A

@@ -7,8 +7,16 @@ use Rattle.meaning.specs.Basics.{Name}
 use Rattle.meaning.specs.Syntax.{Expr, receive-until, Body, Clauses}
 use Rattle.meaning.specs.Values.{Value, v-pid}
 use Rattle.meaning.specs.System.{Scope, until, Control as Meant, wait, Frame, Worker, System, with-new, ended}
-use Rattle.meaning.specs.Turns.{Outcome as Means, goes-on, leaves, gives, call-code, spawn-code, enter-current,
-    call-builtin}
+use Rattle.meaning.specs.Turns.{
+  Outcome as Means,
+  goes-on,
+  leaves,
+  gives,
+  call-code,
+  spawn-code,
+  enter-current,
+  call-builtin,
+}
 use Rattle.code.specs.Code.{CodeE}
 use Rattle.code.specs.Environment.{Chain}
 use Rattle.code.specs.Fine.{Takes}

@@ -10,8 +10,18 @@ use Rattle.std.specs.declared.result.Result.{Result}
 use Rattle.std.specs.declared.result.Result.the-variants.{Ok, Err}
 use Rattle.meaning.specs.Syntax.{Clauses}
 use Rattle.meaning.specs.Values.{Value}
-use Rattle.meaning.specs.System.{Scope, Until, for-ever, until, Control as Meant, wait, Worker, System, on-worker,
-    set-mail}
+use Rattle.meaning.specs.System.{
+  Scope,
+  Until,
+  for-ever,
+  until,
+  Control as Meant,
+  wait,
+  Worker,
+  System,
+  on-worker,
+  set-mail,
+}
 use Rattle.meaning.specs.Turns.{goes-on, look-at-mail}
 use Rattle.machine.specs.State.{World, ControlIs}
 use Rattle.machine.specs.declared.receiving.Waited.{Waited}

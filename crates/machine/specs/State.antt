@@ -5,13 +5,58 @@ use mathlib.Core.Option.{some}
 use Prim.Native.Nat.{ℕ, suc, _+_, _≤_, _^_}
 use lib.ListN.{length}
 use Rattle.meaning.specs.Basics.{Name}
-use Rattle.meaning.specs.Atoms.{a-type, a-match, a-clause, a-zero, a-big, a-undef, a-normal, a-old, a-gone, a-ok,
-    a-error, a-exit, a-none, a-true, a-false, a-main}
-use Rattle.meaning.specs.Syntax.{Pattern, Operation, Expr, case, receive, receive-until, Exprs, and-e, Body, bind,
-    Clauses, Module, Program}
+use Rattle.meaning.specs.Atoms.{
+  a-type,
+  a-match,
+  a-clause,
+  a-zero,
+  a-big,
+  a-undef,
+  a-normal,
+  a-old,
+  a-gone,
+  a-ok,
+  a-error,
+  a-exit,
+  a-none,
+  a-true,
+  a-false,
+  a-main,
+}
+use Rattle.meaning.specs.Syntax.{
+  Pattern,
+  Operation,
+  Expr,
+  case,
+  receive,
+  receive-until,
+  Exprs,
+  and-e,
+  Body,
+  bind,
+  Clauses,
+  Module,
+  Program,
+}
 use Rattle.meaning.specs.Values.{Value}
-use Rattle.meaning.specs.System.{Scope, Until, for-ever, until, Control as Meant, eval, give, enter, fail, wait,
-    Frame, operands-frame, bind-frame, case-frame, until-frame, catch-frame}
+use Rattle.meaning.specs.System.{
+  Scope,
+  Until,
+  for-ever,
+  until,
+  Control as Meant,
+  eval,
+  give,
+  enter,
+  fail,
+  wait,
+  Frame,
+  operands-frame,
+  bind-frame,
+  case-frame,
+  until-frame,
+  catch-frame,
+}
 use Rattle.meaning.specs.Grammar.{count}
 use Rattle.store.specs.Heap.{Store, Den}
 use Rattle.store.specs.Tree.{Tree, leaf, node}
@@ -109,12 +154,12 @@ pub data FramesAre (x : World) : Tree → List Frame → Type 0 where
   operands-at : {p n : ℕ} {t : Tree} (sc : List Name) (us vs : List Value) {o : Operation} {e : Expr} {es : Exprs}
       {w : Scope} {k : List Frame} →
       CodeEs (x .names) sc (x .code) (placed operand-kind p) o (length vs + suc (count es)) (and-e e es) →
-          Framed x sc n us w → Fine-values (x .names) (reverse vs) →
+      Framed x sc n us w → Fine-values (x .names) (reverse vs) →
       FramesAre x t k →
       FramesAre x (node operands-frame-kind
-          (node part-kind (leaf place-kind p n)
-          (node part-kind (chain (x .names) values-kind nothing us)
-          (chain (x .names) values-kind nothing (reverse vs)))) t) (operands-frame o vs es w ∷ k)
+      (node part-kind (leaf place-kind p n)
+      (node part-kind (chain (x .names) values-kind nothing us)
+      (chain (x .names) values-kind nothing (reverse vs)))) t) (operands-frame o vs es w ∷ k)
   bind-at : {p n : ℕ} {t : Tree} (sc : List Name) (us : List Value) {a : Pattern} {e : Expr} {b : Body} {w : Scope}
       {k : List Frame} →
       CodeB (x .names) sc (x .code) (placed statement-kind p) (bind a e b) → Framed x sc n us w → FramesAre x t k →
@@ -126,7 +171,7 @@ pub data FramesAre (x : World) : Tree → List Frame → Type 0 where
   until-at : {p n : ℕ} {t : Tree} (sc : List Name) (us : List Value) {cs : Clauses} {e : Expr} {b : Body} {w : Scope}
       {k : List Frame} →
       CodeE (x .names) sc (x .code) (placed until-kind p) (receive-until cs e b) → Framed x sc n us w →
-          FramesAre x t k →
+      FramesAre x t k →
       FramesAre x (treeF x until-frame-kind p n us t) (until-frame cs b w ∷ k)
   catch-at : {t : Tree} {k : List Frame} → FramesAre x t k →
       FramesAre x (node catch-frame-kind nothing t) (catch-frame ∷ k)

@@ -6,8 +6,22 @@ use Prim.Native.Nat.{ℕ, _+_}
 use lib.ListN.{length}
 use Rattle.std.specs.declared.result.Result.{Result}
 use Rattle.meaning.specs.Values.{Value}
-use Rattle.meaning.specs.System.{Control as Meant, eval, give, enter, fail, wait, Frame, operands-frame, bind-frame,
-    case-frame, until-frame, catch-frame, Worker, System}
+use Rattle.meaning.specs.System.{
+  Control as Meant,
+  eval,
+  give,
+  enter,
+  fail,
+  wait,
+  Frame,
+  operands-frame,
+  bind-frame,
+  case-frame,
+  until-frame,
+  catch-frame,
+  Worker,
+  System,
+}
 use Rattle.meaning.specs.Turns.{Outcome as Means, resume, turn-with}
 use Rattle.machine.specs.Outcomes.{Runs}
 use Rattle.machine.specs.State.{World, FramesAt, ControlIs}
