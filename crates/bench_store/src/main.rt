@@ -2,6 +2,8 @@
 //!
 //! What was done goes to standard output; how fast, which differs from run to run, to standard error.
 
+#![tactic(auto)]
+
 use anyhow::anyhow;
 use std::env;
 use std::num::nearest_u64_to_f64;

@@ -1,5 +1,7 @@
 //! How programs stand in cells: shared by the reader, which makes them, and the machine, which runs them.
 
+#![tactic(auto)]
+
 ghost use Rattle.code.specs.Reading.{ReadsFine};
 
 mod clauses;

@@ -1,7 +1,7 @@
 -- Whether names are bound depends only on which names are listed, so not on the order of parameters; and what is
 -- bound part by part, as the machine reads it, is bound as a whole.
 use mathlib.Core.Path.{◌≡◌, refl, ap, ◌∙◌}
-use mathlib.Core.Bool.{Bool, true, false, ◌&&◌, ◌||◌, or_false}
+use mathlib.Core.Bool.{Bool, true, false, ◌&&◌, ◌||◌, or-false}
 use mathlib.Core.List.{List, [], ◌∷◌, reverse, reverse_aux}
 use native.Mathlib.Omega.{arith}
 use Rattle.meaning.specs.Basics.{Name, same, listed}
@@ -81,7 +81,7 @@ listed-reverse-onto x (y ∷ xs) ys =
 
 -- the order of parameters does not count
 pub reverse_alike : (xs : List Name) → Alike (reverse xs) xs
-reverse_alike xs = λ x. listed-reverse-onto x xs [] ∙ or_false (listed x xs)
+reverse_alike xs = λ x. listed-reverse-onto x xs [] ∙ or-false (listed x xs)
 
 -- the newest part is checked first
 pub newest_part_first : (x e s : Bool) → (x && (e && s)) ≡ ((e && x) && s)

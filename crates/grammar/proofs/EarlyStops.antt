@@ -2,7 +2,7 @@
 -- not fine stays so, and at the end of a text fine is sound. A text that comes to a state that is not fine is
 -- therefore no program.
 use mathlib.Core.Path.{◌≡◌, refl, sym, ap, subst, ◌∙◌}
-use mathlib.Core.Bool.{Bool, true, false, ◌&&◌, not, cond, and_true, and_assoc}
+use mathlib.Core.Bool.{Bool, true, false, ◌&&◌, not, cond, and-true, and_assoc}
 use mathlib.Core.List.{List, [], ◌∷◌, ◌++◌}
 use mathlib.Core.Option.{Option, some}
 use Prim.Native.Nat.{ℕ}
@@ -119,7 +119,7 @@ run_backwards s t (w ∷ ws) e h =
 
 -- the modules read, before those of g
 pub program_fine : (m : Modules) (g : Program) → sound_modules (program_of m g) ≡ (sound_modules g && fine_modules m)
-program_fine no_module g = sym (and_true (sound_modules g))
+program_fine no_module g = sym (and-true (sound_modules g))
 program_fine (in_module m x fs) g =
     program_fine m (module_of x (list_of fs []) ∷ g)
     ∙ ap (λ d. (d && sound_modules g) && fine_modules m) (sound-newest fs)

@@ -1,5 +1,7 @@
 //! How programs are read: a push-down machine that takes one token at a time, proved to read exactly the programs
 //! of the grammar.
+
+#![tactic(auto)]
 ghost use Rattle.meaning.specs.Promise.{OneProgram};
 ghost use Rattle.meaning.specs.Grammar.{Reads};
 ghost use Rattle.grammar.specs.Promise.{ParseExactly, ReadExactly, NoProgram};

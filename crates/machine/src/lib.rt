@@ -1,5 +1,7 @@
 //! One turn of one worker: what its state is in cells, and what it leads to.
 
+#![tactic(auto)]
+
 mod atoms;
 mod binding;
 mod evaluation;

@@ -1,5 +1,7 @@
 //! Patterns against values, clauses against a message, and the mailbox from which a receive takes its message.
 
+#![tactic(auto)]
+
 mod clause;
 mod mailbox;
 mod pattern;

@@ -3,6 +3,8 @@
 //! The definitions stand in `specs/`. A function here does nothing: its contract is a theorem about them, so that the
 //! crate is accepted only with the theorem's proof.
 
+#![tactic(auto)]
+
 pub mod rounds;
 pub mod theorems;
 pub mod worked;

@@ -1,5 +1,7 @@
 //! The table of names of a text: each name and each atom stands by a number.
 
+#![tactic(auto)]
+
 mod collect;
 mod hash;
 mod laws;

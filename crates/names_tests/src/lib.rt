@@ -1,4 +1,6 @@
 //! What the table of names does on examples.
 
+#![tactic(auto)]
+
 #[cfg(test)]
 mod tests;

@@ -2,7 +2,7 @@
 -- By the signs of the factors that is one fact of naturals, in two of its four cases at the upper end and in two at the
 -- lower one: m is at most n / d exactly where m * d is at most n.
 use Rattle.std.proofs.Common.{◌≡◌, ℕ, zero, suc, ◌-◌, ◌*◌, ◌/◌, ◌^◌, ◌<◌, ◌≤◌, Bool, true, false, ◌&&◌, leb, ℤ, pos, negsuc, ◌*ℤ◌, neg_ℤ, sym, refl, ap, ◌∙◌, ⊎_elim, div-lt_iff_lt-mul, le-div_iff_mul-le, arith, lit<, to_z-of_z, w64, SFits}
-use mathlib.Core.Bool.{and_true}
+use mathlib.Core.Bool.{and-true}
 use lib.Dec.{leb-suc-suc}
 use lib.Signed.{le_z, lt_z, quot_z}
 use Rattle.std.proofs.lemmas.Int.{ints}
@@ -51,7 +51,7 @@ fits_by_positive (pos m) d h =
     ap (λ (t : Bool). t && leb m ((2 ^ 63 - 1) / d)) (le_z_negated_pos (2 ^ 63 / d) m)
     ∙ leb_div m (2 ^ 63 - 1) d h ∙ fits_pos (m * d)
 fits_by_positive (negsuc m) d h =
-    and_true (le_z (quot_z least (pos d)) (negsuc m)) ∙ le_z_negated_negsuc (2 ^ 63 / d) m
+    and-true (le_z (quot_z least (pos d)) (negsuc m)) ∙ le_z_negated_negsuc (2 ^ 63 / d) m
     ∙ leb_div (suc m) (2 ^ 63) d h ∙ fits_negated (suc m * d)
 
 fits_by_negative : (a : ℤ) (e : ℕ)
@@ -60,7 +60,7 @@ fits_by_negative (pos m) e =
     ap (λ (t : Bool). t && leb m (2 ^ 63 / suc e)) (le_z_negated_pos ((2 ^ 63 - 1) / suc e) m)
     ∙ leb_div m (2 ^ 63) (suc e) (omega arith) ∙ fits_negated (m * suc e)
 fits_by_negative (negsuc m) e =
-    and_true (le_z (quot_z greatest (negsuc e)) (negsuc m)) ∙ le_z_negated_negsuc ((2 ^ 63 - 1) / suc e) m
+    and-true (le_z (quot_z greatest (negsuc e)) (negsuc m)) ∙ le_z_negated_negsuc ((2 ^ 63 - 1) / suc e) m
     ∙ leb_div (suc m) (2 ^ 63 - 1) (suc e) (omega arith) ∙ fits_pos (suc m * suc e)
 
 -- the test as the machine makes it

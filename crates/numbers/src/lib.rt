@@ -2,6 +2,8 @@
 //!
 //! Each operation looks at its operands before it is done, so that none wraps and none needs a wider type.
 
+#![tactic(auto)]
+
 mod division;
 mod order;
 mod product;

@@ -1,5 +1,7 @@
 //! The scheduler's queue: this round's workers and the next round's, as two lines of numbers in lent words.
 
+#![tactic(auto)]
+
 ghost use Rattle.std.specs.Prelude.{◌≡◌, ◌+◌, ◌-◌, ◌/◌, ◌^◌, ◌≤◌, min, true, [], length, MatchOption, MatchResult, ◌≢◌};
 ghost use Rattle.queue.specs.Lines.{before, before_room, behind, behind_room, front};
 ghost use Rattle.queue.specs.Lines.{Empty, Ended, Popped, Pushed, Same, Turned};

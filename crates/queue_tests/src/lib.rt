@@ -1,5 +1,7 @@
 //! How the queue is used, and what it does on examples: rounds in order, and refusals at the very edge.
 
+#![tactic(auto)]
+
 ghost use Rattle.queue.specs.Lines.{Same};
 ghost use Rattle.queue_tests.specs.Rotate.{Rotated};
 ghost use Rattle.std.specs.Result.{MatchResult};

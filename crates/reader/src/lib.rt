@@ -1,5 +1,7 @@
 //! What a token is to the grammar, and whether a statement binds.
 
+#![tactic(auto)]
+
 mod class;
 mod classify;
 mod keyword;

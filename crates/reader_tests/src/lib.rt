@@ -1,4 +1,6 @@
 //! Tokens and their classes, numbers, and statements that bind.
 
+#![tactic(auto)]
+
 #[cfg(test)]
 mod tests;

@@ -1,5 +1,7 @@
 //! Lent words as a store of immutable cells: no other crate touches them.
 
+#![tactic(auto)]
+
 mod collector;
 mod comparer;
 mod heap;

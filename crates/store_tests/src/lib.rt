@@ -1,5 +1,7 @@
 //! How the store is used, and what it does on examples: long lists, sharing, and refusals at the very edge.
 
+#![tactic(auto)]
+
 ghost use Rattle.std.specs.Prelude.{◌≡◌, ◌+◌, ◌*◌, ◌<◌, length, MatchResult};
 ghost use Rattle.store.specs.Heap.{stored, Den};
 ghost use Rattle.store.specs.Tree.{spine, Tree};

@@ -1,5 +1,7 @@
 //! Cuts a text into tokens, one at a time, and says on which line and column a byte stands.
 
+#![tactic(auto)]
+
 mod bytes;
 mod next;
 mod position;

@@ -1,4 +1,6 @@
 //! Small texts and their tokens.
 
+#![tactic(auto)]
+
 #[cfg(test)]
 mod tests;

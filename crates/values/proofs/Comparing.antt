@@ -1,6 +1,6 @@
 -- The tree of a value is made of its parts, and no two forms have the same kind, so two trees are the same where the values are.
 use Rattle.std.proofs.Common.{◌≡◌, ℕ, suc, ◌-◌, ◌/◌, ◌%◌, ◌^◌, Bool, true, false, cond, ◌&&◌, eqb, ◌⊎◌, List, [], ◌∷◌, ℤ, pos, negsuc, sym, refl, ap, ◌∙◌, subst, inl, inr, arith, ltb-true, eq-eqb, ne_eqb, eqb-true}
-use mathlib.Core.Bool.{and_true}
+use mathlib.Core.Bool.{and-true}
 use Rattle.std.proofs.lemmas.Bool.{and_parts, and_from}
 use Rattle.meaning.specs.Basics.{Name, same}
 use Rattle.meaning.specs.Values.{
@@ -90,7 +90,7 @@ mutual
   value_same ns (v_int z) (v_tuple no_v) f g = refl
   value_same ns (v_int z) (v_tuple (and_v e es)) f g = refl
   value_same ns (v_atom x) (v_int z') f g = refl
-  value_same ns (v_atom x) (v_atom x') f g = and_true (eqb (index_of ns x) (index_of ns x')) ∙ index_same ns x x' f g
+  value_same ns (v_atom x) (v_atom x') f g = and-true (eqb (index_of ns x) (index_of ns x')) ∙ index_same ns x x' f g
   value_same ns (v_atom x) v_nil f g = refl
   value_same ns (v_atom x) (v_cons a' b') f g = refl
   value_same ns (v_atom x) (v_pid n') f g = refl

@@ -1,5 +1,7 @@
 //! Values of the language as trees of the store: their outermost parts, whether two are the same, and their text.
 
+#![tactic(auto)]
+
 mod comparer;
 mod digits;
 mod names;

@@ -5,17 +5,17 @@ pub definitions-init : goal.definitions-init
 definitions-init c = walk_starts
 
 pub returns-then-chain-ne-FUNCTIONS : goal.returns-then-chain-ne-FUNCTIONS
-returns-then-chain-ne-FUNCTIONS c = walk_ends _ _ c.definitions.invariant c.read-slot-chain.ensures c.if-chain-ne-FUNCTIONS.true
+returns-then-chain-ne-FUNCTIONS c = walk_ends _ _ c.definitions.invariant c.read_slot-chain.ensures c.if-chain-ne-FUNCTIONS.true
 
-pub returns-then-has-signature : goal.returns-then-has-signature
-returns-then-has-signature c =
-    walk-finds _ _ c.definitions.invariant c.read-slot-chain.ensures c.if-chain-ne-FUNCTIONS.false c.left-definition.ensures c.left.ensures
-    c.has-signature.ensures c.if-has-signature.true c.right.ensures
+pub returns-then-has_signature : goal.returns-then-has_signature
+returns-then-has_signature c =
+    walk-finds _ _ c.definitions.invariant c.read_slot-chain.ensures c.if-chain-ne-FUNCTIONS.false c.left-definition.ensures c.left.ensures
+    c.has_signature.ensures c.if-has_signature.true c.right.ensures
 
 pub definitions-preserved : goal.definitions-preserved
 definitions-preserved c =
-    walk_on c.definitions.invariant c.if-chain-ne-FUNCTIONS.false c.left-definition.ensures c.left.ensures c.has-signature.ensures
-    c.if-has-signature.false c.right-chain.ensures
+    walk_on c.definitions.invariant c.if-chain-ne-FUNCTIONS.false c.left-definition.ensures c.left.ensures c.has_signature.ensures
+    c.if-has_signature.false c.right-chain.ensures
 
 pub returns : goal.returns
-returns c = walk-over _ _ c.definitions.invariant c.read-slot-chain.ensures c.definitions-test.false
+returns c = walk-over _ _ c.definitions.invariant c.read_slot-chain.ensures c.definitions-test.false

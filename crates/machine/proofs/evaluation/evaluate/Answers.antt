@@ -7,7 +7,7 @@ pub returns-in-Constant : goal.returns-in-Constant
 returns-in-Constant c = record { grows = grows_none; sim = record { to = λ x s me k sc e w q p ce si fs. evaluate-constant x s me si fs (instruction_in q c.in-Constant.ensures ce) } }
 
 pub returns-in-Variable : goal.returns-in-Variable
-returns-in-Variable c = record { grows = grows_none; sim = record { to = λ x s me k sc e w q p ce si fs. evaluate-variable x s me si fs (instruction_in q c.in-Variable.ensures ce) c.look-up.ensures } }
+returns-in-Variable c = record { grows = grows_none; sim = record { to = λ x s me k sc e w q p ce si fs. evaluate-variable x s me si fs (instruction_in q c.in-Variable.ensures ce) c.look_up.ensures } }
 
 pub returns-in-Apply : goal.returns-in-Apply
 returns-in-Apply c =
@@ -29,14 +29,14 @@ returns-in-Err c =
 pub returns-in-Receive : goal.returns-in-Receive
 returns-in-Receive c = record { grows = grows_none; sim = record { to = λ x s me k sc e w q p ce si fs. evaluate-receive x s me si fs (instruction_in q c.in-Receive.ensures ce) } }
 
-pub returns-in-Ok-make-frame : goal.returns-in-Ok-make-frame
-returns-in-Ok-make-frame c =
-    let t = c.in-Ok-make-frame.ensures in
+pub returns-in-Ok-make_frame : goal.returns-in-Ok-make_frame
+returns-in-Ok-make_frame c =
+    let t = c.in-Ok-make_frame.ensures in
     record { grows = t.grows; sim = record { to = λ x s me k sc e w q p ce si fs. evaluate-until x s me si fs (instruction_in q c.in-ReceiveUntil.ensures ce) t.grows.kept t.cases } }
 
-pub returns-in-Err-make-frame : goal.returns-in-Err-make-frame
-returns-in-Err-make-frame c =
-    let t = c.in-Err-make-frame.ensures in
+pub returns-in-Err-make_frame : goal.returns-in-Err-make_frame
+returns-in-Err-make_frame c =
+    let t = c.in-Err-make_frame.ensures in
     record { grows = t.grows; sim = record { to = λ x s me k sc e w q p ce si fs. omega (arith, t.cases) } }
 
 pub returns-in-Ok-put : goal.returns-in-Ok-put

@@ -15,19 +15,19 @@ returns-in-Err c =
     let p = c.in-Err.ensures in
     record { grows = grows_lacks p.cases; sim = record { to = λ x s me k sc o vs es w q i ce ch si fs. omega (arith, p.cases.short) } }
 
-pub returns-in-Ok-make-frame : goal.returns-in-Ok-make-frame
-returns-in-Ok-make-frame c =
+pub returns-in-Ok-make_frame : goal.returns-in-Ok-make_frame
+returns-in-Ok-make_frame c =
     let p = c.in-Ok.ensures in
-    let f = c.in-Ok-make-frame.ensures in
+    let f = c.in-Ok-make_frame.ensures in
     record {
       grows = grows_on (grows_put p.long p.cases) f.grows;
       sim = record { to = λ x s me k sc o vs es w q i ce ch si fs. operands-more x s me si fs vs es q c.if-chain-ne-OPERAND.false ce ch c.left.ensures p.cases f.grows.kept f.cases };
     }
 
-pub returns-in-Err-make-frame : goal.returns-in-Err-make-frame
-returns-in-Err-make-frame c =
+pub returns-in-Err-make_frame : goal.returns-in-Err-make_frame
+returns-in-Err-make_frame c =
     let p = c.in-Ok.ensures in
-    let f = c.in-Err-make-frame.ensures in
+    let f = c.in-Err-make_frame.ensures in
     record {
       grows = grows_on (grows_put p.long p.cases) f.grows;
       sim = record { to = λ x s me k sc o vs es w q i ce ch si fs. omega (arith, p.long, p.cases.count, f.cases) };

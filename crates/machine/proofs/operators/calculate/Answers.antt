@@ -48,5 +48,5 @@ returns-in-Less c =
 
 pub returns-in-AtMost : goal.returns-in-AtMost
 returns-in-AtMost c =
-    let e = both_back (λ a b. c.at-most.result ≡ (not (less_int b a))) c.args.a c.args.b c.ranges.a c.ranges.b c.at-most.ensures in
+    let e = both_back (λ a b. c.at_most.result ≡ (not (less_int b a))) c.args.a c.args.b c.ranges.a c.ranges.b c.at_most.ensures in
     calculates_as AtMost c.in-AtMost.is (record { to = λ x m. truth-as x m (not (less_int c.args.b c.args.a)) c.truth-in-AtMost.ensures e })

@@ -2,7 +2,7 @@ use Rattle.machine.proofs.Operating.{divides_result, divides_big, divides_zero}
 use Rattle.machine.proofs.operators.quotient.Goals as goal
 
 pub returns-in-Result : goal.returns-in-Result
-returns-in-Result c = divides_result c.in-Result.is c.to-slot.ensures
+returns-in-Result c = divides_result c.in-Result.is c.to_slot.ensures
 
 pub returns-in-TooBig : goal.returns-in-TooBig
 returns-in-TooBig c = divides_big c.in-TooBig.is

@@ -12,7 +12,7 @@ operands-smaller c = let p = c.in-Ok.ensures in omega (arith, p.long, p.cases.co
 pub operands-preserved : goal.operands-preserved
 operands-preserved c =
     let p = c.in-Ok.ensures in
-    gather_on c.operands.invariant c.operands-test.true c.left_value.ensures c.right-next.ensures (grows_put p.long p.cases) p.cases
+    gather_on c.operands.invariant c.operands-test.true c.left-value.ensures c.right-next.ensures (grows_put p.long p.cases) p.cases
 
 pub returns-in-Err : goal.returns-in-Err
 returns-in-Err c =

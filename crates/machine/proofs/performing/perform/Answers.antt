@@ -15,14 +15,14 @@ returns-in-Err c =
     let t = c.in-Err.ensures in
     record { grows = t.grows; sim = record { to = λ x s me k o vs w q p d fo ch sw fs. omega (arith, t.cases.short vs ch) } }
 
-pub returns-in-Ok-make-pair : goal.returns-in-Ok-make-pair
-returns-in-Ok-make-pair c =
-    let t = c.in-Ok-make-pair.ensures in
+pub returns-in-Ok-make_pair : goal.returns-in-Ok-make_pair
+returns-in-Ok-make_pair c =
+    let t = c.in-Ok-make_pair.ensures in
     record { grows = t.grows; sim = record { to = λ x s me k o vs w q p d fo ch sw fs. perform-pair x s me w fs vs (operation_in q c.in-MakePair.ensures fo d) ch t.grows.kept t.cases } }
 
-pub returns-in-Err-make-pair : goal.returns-in-Err-make-pair
-returns-in-Err-make-pair c =
-    let t = c.in-Err-make-pair.ensures in
+pub returns-in-Err-make_pair : goal.returns-in-Err-make_pair
+returns-in-Err-make_pair c =
+    let t = c.in-Err-make_pair.ensures in
     record { grows = t.grows; sim = record { to = λ x s me k o vs w q p d fo ch sw fs. omega (arith, t.cases) } }
 
 pub returns-in-Some : goal.returns-in-Some
@@ -31,11 +31,11 @@ returns-in-Some c = record { grows = grows_none; sim = record { to = λ x s me k
 pub returns-in-None : goal.returns-in-None
 returns-in-None c = record { grows = grows_none; sim = record { to = λ x s me k o vs w q p d fo ch sw fs. perform-no-call x s me w fs q sw vs (operation_in q c.in-Call.ensures fo d) ch c.in-None.ensures } }
 
-pub returns-in-Some-enter-function : goal.returns-in-Some-enter-function
-returns-in-Some-enter-function c = record { grows = grows_none; sim = record { to = λ x s me k o vs w q p d fo ch sw fs. perform-spawn x s me w fs q sw vs (operation_in q c.in-Spawn.ensures fo d) ch c.in-Some-enter-function.ensures } }
+pub returns-in-Some-enter_function : goal.returns-in-Some-enter_function
+returns-in-Some-enter_function c = record { grows = grows_none; sim = record { to = λ x s me k o vs w q p d fo ch sw fs. perform-spawn x s me w fs q sw vs (operation_in q c.in-Spawn.ensures fo d) ch c.in-Some-enter_function.ensures } }
 
-pub returns-in-None-enter-function : goal.returns-in-None-enter-function
-returns-in-None-enter-function c = record { grows = grows_none; sim = record { to = λ x s me k o vs w q p d fo ch sw fs. perform-no-spawn x s me w fs q sw vs (operation_in q c.in-Spawn.ensures fo d) ch c.in-None-enter-function.ensures } }
+pub returns-in-None-enter_function : goal.returns-in-None-enter_function
+returns-in-None-enter_function c = record { grows = grows_none; sim = record { to = λ x s me k o vs w q p d fo ch sw fs. perform-no-spawn x s me w fs q sw vs (operation_in q c.in-Spawn.ensures fo d) ch c.in-None-enter_function.ensures } }
 
 pub returns-in-FarCall : goal.returns-in-FarCall
 returns-in-FarCall c = record { grows = grows_none; sim = record { to = λ x s me k o vs w q p d fo ch sw fs. perform-far-call x s me w fs vs (operation_in q c.in-FarCall.ensures fo d) ch } }

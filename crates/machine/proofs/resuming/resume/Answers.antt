@@ -5,8 +5,8 @@ use Rattle.machine.proofs.resuming.resume.Goals as goal
 pub returns-in-Operands : goal.returns-in-Operands
 returns-in-Operands c =
     record {
-      grows = c.add-operand.ensures.grows;
-      sim = record { to = λ x s me k u q i hv fs. resume-operand x s me u hv c.add-operand.result (frame_as c.in-Operands.ensures fs) q i c.add-operand.ensures.sim };
+      grows = c.add_operand.ensures.grows;
+      sim = record { to = λ x s me k u q i hv fs. resume-operand x s me u hv c.add_operand.result (frame_as c.in-Operands.ensures fs) q i c.add_operand.ensures.sim };
     }
 
 pub returns-in-Bind : goal.returns-in-Bind
@@ -19,12 +19,12 @@ returns-in-Bind c =
 pub returns-in-Case : goal.returns-in-Case
 returns-in-Case c =
     record {
-      grows = c.choose-clause.ensures.grows;
-      sim = record { to = λ x s me k u q i hv fs. resume-case x s me u hv c.args.scratch.now c.choose-clause.result (frame_as c.in-Case.ensures fs) q c.choose-clause.ensures.sim };
+      grows = c.choose_clause.ensures.grows;
+      sim = record { to = λ x s me k u q i hv fs. resume-case x s me u hv c.args.scratch.now c.choose_clause.result (frame_as c.in-Case.ensures fs) q c.choose_clause.ensures.sim };
     }
 
 pub returns-in-Until : goal.returns-in-Until
-returns-in-Until c = record { grows = grows_none; sim = record { to = λ x s me k u q i hv fs. resume-until x s me u hv (frame_as c.in-Until.ensures fs) c.wait-for.ensures } }
+returns-in-Until c = record { grows = grows_none; sim = record { to = λ x s me k u q i hv fs. resume-until x s me u hv (frame_as c.in-Until.ensures fs) c.wait_for.ensures } }
 
 pub returns-in-Ok : goal.returns-in-Ok
 returns-in-Ok c =

@@ -88,9 +88,9 @@ returns-then-depth-eq0 t c =
           c.parts.invariant.2;
     }
 
-pub returns-in-Err-fits-within : goal.returns-in-Err-fits-within
-returns-in-Err-fits-within t c =
-    let p = c.in-Err-fits-within.ensures in
+pub returns-in-Err-fits_within : goal.returns-in-Err-fits_within
+returns-in-Err-fits_within t c =
+    let p = c.in-Err-fits_within.ensures in
     record {
       long = p.long ∙ c.parts.invariant.0;
       kept = kept_trans c.parts.invariant.1 p.kept;
@@ -100,7 +100,7 @@ returns-in-Err-fits-within t c =
 
 pub returns-in-None : goal.returns-in-None
 returns-in-None t c =
-    let p = c.in-Ok-fits-within.ensures in
+    let p = c.in-Ok-fits_within.ensures in
     record {
       long = p.long ∙ c.parts.invariant.0;
       kept = kept_trans c.parts.invariant.1 p.kept;
@@ -110,7 +110,7 @@ returns-in-None t c =
 
 pub parts-preserved : goal.parts-preserved
 parts-preserved t c =
-    let p = c.in-Ok-fits-within.ensures in (
+    let p = c.in-Ok-fits_within.ensures in (
       p.long ∙ c.parts.invariant.0,
       kept_trans c.parts.invariant.1 p.kept,
       fitting_goes_on c.in-Node.ensures c.if-node-value.false c.both-parts.ensures.left

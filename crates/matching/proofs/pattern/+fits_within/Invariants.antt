@@ -3,8 +3,8 @@ use Rattle.store.specs.Heap.{stored, Kept}
 use Rattle.matching.specs.Fit.{Fitting}
 use Rattle.matching.proofs.pattern.+fits_within.Given as goal
 
-abbrev pub decreases-fits-within : goal.decreases-fits-within
-decreases-fits-within l = l.depth
+abbrev pub decreases-fits_within : goal.decreases-fits_within
+decreases-fits_within l = l.depth
 
 abbrev pub invariant-parts : goal.invariant-parts
 invariant-parts l =

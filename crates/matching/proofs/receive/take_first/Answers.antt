@@ -16,7 +16,7 @@ returns-in-Found c =
     record {
       long = p.long;
       kept = p.kept;
-      cases = taken_is c.with-back.ensures (takes_front p.kept (looked_is c.in-Found.is p.cases));
+      cases = taken_is c.with_back.ensures (takes_front p.kept (looked_is c.in-Found.is p.cases));
     }
 
 pub returns-in-Err-turn : goal.returns-in-Err-turn
@@ -29,11 +29,11 @@ returns-in-Err-turn c =
       cases = take_lacks_turn p.long (looked_is c.in-Nothing.is p.cases) p.kept t.cases;
     }
 
-pub returns-in-Err-look-through : goal.returns-in-Err-look-through
-returns-in-Err-look-through c =
+pub returns-in-Err-look_through : goal.returns-in-Err-look_through
+returns-in-Err-look_through c =
     let p = c.in-Ok.ensures in
     let t = c.in-Ok-turn.ensures in
-    let q = c.in-Err-look-through.ensures in
+    let q = c.in-Err-look_through.ensures in
     record {
       long = q.long ∙ (t.long ∙ p.long);
       kept = kept_trans (kept_trans p.kept t.kept) q.kept;
@@ -41,27 +41,27 @@ returns-in-Err-look-through c =
           t.kept q.cases;
     }
 
-pub returns-in-Found-in-back : goal.returns-in-Found-in-back
-returns-in-Found-in-back c =
+pub returns-in-Found-in_back : goal.returns-in-Found-in_back
+returns-in-Found-in_back c =
     let p = c.in-Ok.ensures in
     let t = c.in-Ok-turn.ensures in
-    let q = c.in-Ok-look-through.ensures in
+    let q = c.in-Ok-look_through.ensures in
     record {
       long = q.long ∙ (t.long ∙ p.long);
       kept = kept_trans (kept_trans p.kept t.kept) q.kept;
-      cases = taken_is c.with-back-in-Found-in-back.ensures
+      cases = taken_is c.with_back-in-Found-in_back.ensures
           (takes_back (looked_is c.in-Nothing.is p.cases) p.kept t.cases t.kept
-          (looked_is c.in-Found-in-back.is q.cases));
+          (looked_is c.in-Found-in_back.is q.cases));
     }
 
-pub returns-in-Nothing-in-back : goal.returns-in-Nothing-in-back
-returns-in-Nothing-in-back c =
+pub returns-in-Nothing-in_back : goal.returns-in-Nothing-in_back
+returns-in-Nothing-in_back c =
     let p = c.in-Ok.ensures in
     let t = c.in-Ok-turn.ensures in
-    let q = c.in-Ok-look-through.ensures in
+    let q = c.in-Ok-look_through.ensures in
     record {
       long = q.long ∙ (t.long ∙ p.long);
       kept = kept_trans (kept_trans p.kept t.kept) q.kept;
       cases = takes_none (looked_is c.in-Nothing.is p.cases) p.kept t.cases t.kept
-          (looked_is c.in-Nothing-in-back.is q.cases);
+          (looked_is c.in-Nothing-in_back.is q.cases);
     }

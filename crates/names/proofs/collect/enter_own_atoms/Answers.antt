@@ -8,7 +8,7 @@ loop-i-preserved c = (
   c.in-Ok.ensures.long ∙ c.loop-i.invariant.0,
   kept_trans c.loop-i.invariant.1 c.in-Ok.ensures.kept,
   omega (arith, c.in-Ok.ensures.cases.used, c.loop-i.invariant.2),
-  (λ text empty. own_more c.loop-i-test.true c.own-atom.ensures c.in-Ok.ensures.cases
+  (λ text empty. own_more c.loop-i-test.true c.own_atom.ensures c.in-Ok.ensures.cases
       (c.loop-i.invariant.3 text empty)),
 )
 

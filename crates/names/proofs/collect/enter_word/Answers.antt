@@ -17,7 +17,7 @@ returns-in-Ok c =
     record {
       long = c.in-Ok.ensures.long;
       kept = c.in-Ok.ensures.kept;
-      cases = word-entered (sym c.if-not-is-atom.ensures) c.in-None.ensures refl
+      cases = word-entered (sym c.if-not-is_atom.ensures) c.in-None.ensures refl
           c.slot-span.ensures.kind
           c.slot-span.ensures.place c.in-Ok.ensures.cases;
     }
@@ -28,7 +28,7 @@ returns-in-Err c =
       long = c.in-Err.ensures.long;
       kept = c.in-Err.ensures.kept;
       cases = record {
-        new = λ {ns} t. word-added (sym c.if-not-is-atom.ensures) c.in-None.ensures refl t;
+        new = λ {ns} t. word-added (sym c.if-not-is_atom.ensures) c.in-None.ensures refl t;
         short = c.in-Err.ensures.cases;
       };
     }

@@ -7,8 +7,8 @@ use Rattle.names.proofs.collect.enter_words.Goals as goal
 pub loop-lexeme-init : goal.loop-lexeme-init
 loop-lexeme-init c = (refl, kept_refl, refl, omega arith, behind_start c.args.text.now, (λ t. entering_start t))
 
-pub overflow-sub-from : goal.overflow-sub-from
-overflow-sub-from c = omega (arith, behind-length c.loop-lexeme.invariant.4)
+pub overflow_sub-from : goal.overflow_sub-from
+overflow_sub-from c = omega (arith, behind-length c.loop-lexeme.invariant.4)
 
 pub returns-in-Err : goal.returns-in-Err
 returns-in-Err c =
@@ -50,8 +50,8 @@ returns c =
       long = c.loop-lexeme.invariant.0;
       kept = c.loop-lexeme.invariant.1;
       cases = record {
-        count_is = λ t. sym (table_long (entering_end c.in-default.ensures (c.loop-lexeme.invariant.5 t)));
-        stands = λ t. entering_end c.in-default.ensures (c.loop-lexeme.invariant.5 t);
+        count_is = λ t. sym (table_long (entering_end c.in_default.ensures (c.loop-lexeme.invariant.5 t)));
+        stands = λ t. entering_end c.in_default.ensures (c.loop-lexeme.invariant.5 t);
         used = c.loop-lexeme.invariant.2;
       };
     }

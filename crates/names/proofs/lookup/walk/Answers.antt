@@ -5,21 +5,21 @@ use Rattle.names.proofs.lookup.walk.Goals as goal
 pub loop-at-init : goal.loop-at-init
 loop-at-init c = walking-begins
 
-pub returns-then-same-bytes : goal.returns-then-same-bytes
-returns-then-same-bytes c =
+pub returns-then-same_bytes : goal.returns-then-same_bytes
+returns-then-same_bytes c =
     record {
       first = λ numbers d. walking-found numbers c.both-cell.result.left
-          (record { 0 = c.both-cell.result.left.low }) c.name-bytes.result.now
-          c.loop-at-test.true c.both-cell.ensures.left refl c.name-bytes.ensures
-          c.if-same-bytes.ensures (c.loop-at.invariant numbers d);
+          (record { 0 = c.both-cell.result.left.low }) c.name_bytes.result.now
+          c.loop-at-test.true c.both-cell.ensures.left refl c.name_bytes.ensures
+          c.if-same_bytes.ensures (c.loop-at.invariant numbers d);
     }
 
 pub loop-at-preserved : goal.loop-at-preserved
 loop-at-preserved c = λ numbers d.
     walking_on numbers c.both-cell.result.left c.both-cell.result.right
-    (record { 0 = c.both-cell.result.left.low }) c.name-bytes.result.now
+    (record { 0 = c.both-cell.result.left.low }) c.name_bytes.result.now
     c.loop-at-test.true c.both-cell.ensures.left c.both-cell.ensures.right refl
-    c.name-bytes.ensures c.if-same-bytes.ensures
+    c.name_bytes.ensures c.if-same_bytes.ensures
     (c.loop-at.invariant numbers d)
 
 pub returns-else-steps-heap : goal.returns-else-steps-heap

@@ -8,15 +8,15 @@ pub returns-then-number-count : goal.returns-then-number-count
 returns-then-number-count c = table-past c.args.text.now c.args.spans.now c.args.count
     c.args.atom.0 (omega (arith, c.if-number-count.true))
 
-pub returns-then-number-lt-OWN-ATOMS : goal.returns-then-number-lt-OWN-ATOMS
-returns-then-number-lt-OWN-ATOMS c =
-    c.own-atom.ensures
+pub returns-then-number-lt-OWN_ATOMS : goal.returns-then-number-lt-OWN_ATOMS
+returns-then-number-lt-OWN_ATOMS c =
+    c.own_atom.ensures
     ∙ own_at c.args.text.now c.args.spans.now c.args.count c.args.atom.0
-    (omega (arith, c.if-number-count.false)) c.if-number-lt-OWN-ATOMS.true
+    (omega (arith, c.if-number-count.false)) c.if-number-lt-OWN_ATOMS.true
 
 pub returns : goal.returns
 returns c =
     c.part.ensures
-    ∙ (ap (λ (s : Slot). take s.kind (drop (place_of s) c.args.text.now)) c.read-slot.ensures
+    ∙ (ap (λ (s : Slot). take s.kind (drop (place_of s) c.args.text.now)) c.read_slot.ensures
     ∙ part_at c.args.text.now c.args.spans.now c.args.count c.args.atom.0
-    (omega (arith, c.if-number-count.false)) c.if-number-lt-OWN-ATOMS.false)
+    (omega (arith, c.if-number-count.false)) c.if-number-lt-OWN_ATOMS.false)

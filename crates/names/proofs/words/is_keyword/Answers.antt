@@ -7,5 +7,5 @@ pub loop-i-preserved : goal.loop-i-preserved
 loop-i-preserved c =
     listed_passed c.args.word.now c.keyword.result.now keywords c.loop-i.i c.loop-i-test.true
     c.keyword.ensures
-    c.if-same-bytes.ensures
+    c.if-same_bytes.ensures
     ∙ c.loop-i.invariant

@@ -5,4 +5,4 @@ use Rattle.names.proofs.words.same_bytes.Goals as goal
 use Rattle.std.proofs.lemmas.Bool.Decides.{Decides-eqb}
 
 pub returns : goal.returns
-returns c = let d = slice_eq-Decides Decides-eqb _ _ _ c.eq.ensures in search (rules, compares_Decides same (search rules))
+returns c = let d = slice_eq-Decides Decides-eqb c.args.one.now c.args.other.now _ c.eq.ensures in search (rules, compares_Decides same (search rules))

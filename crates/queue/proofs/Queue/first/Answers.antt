@@ -6,4 +6,4 @@ pub returns-then-self : goal.returns-then-self
 returns-then-self c = front_none c.args.self.now (omega arith)
 
 pub returns : goal.returns
-returns c = front_some c.args.self.now c.at-front.result (omega arith) c.at-front.ensures
+returns c = front_some c.args.self.now c.at_front.result (omega arith) c.at_front.ensures

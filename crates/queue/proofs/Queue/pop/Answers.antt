@@ -7,5 +7,5 @@ returns-then-self c = ended c.args.self.now (omega arith)
 
 pub returns : goal.returns
 returns c =
-    popped c.args.self.now _ c.at-front-number.result (omega arith) c.at-front-number.ensures
+    popped c.args.self.now _ c.at_front-number.result (omega arith) c.at_front-number.ensures
     refl refl refl refl refl

@@ -4,8 +4,8 @@ use Rattle.queue.proofs.Queue.push.Goals as goal
 
 pub returns-in-Ok : goal.returns-in-Ok
 returns-in-Ok c =
-    let long : length c.write-slot.new.words ≡ length c.args.self.now.next.now =
-    omega (arith, c.write-slot.auto.words) in
+    let long : length c.write_slot.new.words ≡ length c.args.self.now.next.now =
+    omega (arith, c.write_slot.auto.words) in
     pushed c.args.self.now _ c.slot.result c.args.number (omega (arith, c.in-Ok.ensures.0))
     c.in-Ok.ensures.1 c.slot.ensures.place long refl refl refl refl
 

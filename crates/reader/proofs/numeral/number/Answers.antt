@@ -4,22 +4,22 @@ use Rattle.meaning.specs.Grammar.{number_from}
 use Rattle.reader.proofs.Numerals.{number_of_digits, digit-goes-on, no_digit_ends, digits-below, digit_more_below}
 use Rattle.reader.proofs.numeral.number.Goals as goal
 
-pub returns-in-default : goal.returns-in-default
-returns-in-default c =
+pub returns-in_default : goal.returns-in_default
+returns-in_default c =
     let w = c.args.word.now in
     let i = c.loop-byte.byte-index in
     sym (number_of_digits w (omega arith) (omega arith)
     ∙ (c.loop-byte.invariant.1
     ∙ (at_drop_more (number_from c.loop-byte.value) w i 0 c.loop-byte-test.true
-    ∙ no_digit_ends c.loop-byte.value (get_or w i 0) (drop (i + 1) w) c.in-default.ensures)))
+    ∙ no_digit_ends c.loop-byte.value (get_or w i 0) (drop (i + 1) w) c.in_default.ensures)))
 
-pub overflow-mul-value : goal.overflow-mul-value
-overflow-mul-value c =
+pub overflow_mul-value : goal.overflow_mul-value
+overflow_mul-value c =
     let below = digits-below c.loop-byte.value c.loop-byte.byte-index (omega arith) c.loop-byte.invariant.0 in
     omega arith
 
-pub overflow-add-value : goal.overflow-add-value
-overflow-add-value c =
+pub overflow_add-value : goal.overflow_add-value
+overflow_add-value c =
     let below = digits-below c.loop-byte.value c.loop-byte.byte-index (omega arith) c.loop-byte.invariant.0 in
     omega (arith, c.in-Some.ensures)
 

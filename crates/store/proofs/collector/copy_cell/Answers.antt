@@ -5,6 +5,6 @@ use Rattle.store.proofs.collector.copy_cell.Goals as goal
 pub returns-in-Ok : goal.returns-in-Ok
 returns-in-Ok c =
     let wrote = c.in-Ok.ensures in
-    appended_node c.args.from.now c.args.to.now c.write-cell.new.words c.args.used c.args.slot
-    c.both.result (omega (arith, wrote.0, c.write-cell.auto.words)) c.if-slot-lt-FIRST-NODE.false
+    appended_node c.args.from.now c.args.to.now c.write_cell.new.words c.args.used c.args.slot
+    c.both.result (omega (arith, wrote.0, c.write_cell.auto.words)) c.if-slot-lt-FIRST_NODE.false
     c.both.ensures wrote.1

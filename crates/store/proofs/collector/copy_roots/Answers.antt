@@ -12,13 +12,13 @@ returns-in-Err c = record {
   same = refl;
   short = λ {top} ts r.
       let n = next_root c.loop-i-test.true (c.loop-i.invariant.3 top ts r) in
-      let one = takes_cell n.tree c.in-Err.ensures.0 (den_at c.load-slot-root.ensures n.here) in
+      let one = takes_cell n.tree c.in-Err.ensures.0 (den_at c.load_slot-root.ensures n.here) in
       omega (arith, n.adds, n.waiting.adds, one, c.in-Err.ensures.1, c.loop-i.auto.to);
 }
 
 pub loop-i-preserved : goal.loop-i-preserved
 loop-i-preserved c =
-    let a = appended_at c.load-slot-root.ensures c.in-Ok.ensures in (
+    let a = appended_at c.load_slot-root.ensures c.in-Ok.ensures in (
       a.fits,
       omega (arith, a.copied.count, c.loop-i.invariant.1, own_more c.args.roots.now c.loop-i.i),
       (λ top. roots_step (store_of c.args.from.now top) c.args.roots.now c.loop-i.i c.loop-i.invariant.1

@@ -8,16 +8,16 @@ pub returns-in-Err : goal.returns-in-Err
 returns-in-Err c = record {
   short = λ {top} {sum} q.
       let n = next c.loop-j-test.true (c.loop-j.invariant.2 top sum q) in
-      let one = takes_cell n.tree c.in-Err.ensures.0 (den_at c.load-slot-slot.ensures n.here) in
+      let one = takes_cell n.tree c.in-Err.ensures.0 (den_at c.load_slot-slot.ensures n.here) in
       omega (arith, n.adds, one, c.in-Err.ensures.1, c.loop-j.auto.to);
 }
 
 pub loop-j-preserved : goal.loop-j-preserved
 loop-j-preserved c =
-    let a = appended_at c.load-slot-slot.ensures c.in-Ok.ensures in
-    let r = redirected_at c.load-slot-slot.ensures c.redirected.ensures in
-    let w = c.set-slot.ensures in (
-      omega (arith, a.fits, c.set-slot.auto),
+    let a = appended_at c.load_slot-slot.ensures c.in-Ok.ensures in
+    let r = redirected_at c.load_slot-slot.ensures c.redirected.ensures in
+    let w = c.set_slot.ensures in (
+      omega (arith, a.fits, c.set_slot.auto),
       omega (arith, a.kept.more, c.loop-j-test.true),
       (λ top sum q. waiting_step c.loop-j-test.true a r w (c.loop-j.invariant.2 top sum q)),
       (λ top s t d. mixed-step (store_of c.args.from.now top) c.loop-j-test.true a r w s t

@@ -26,7 +26,7 @@ pub pairs-preserved-in-Same : goal.pairs-preserved-in-Same
 pairs-preserved-in-Same c =
     let same = c.in-Same.ensures in
     let some : 0 < c.pairs.depth = omega (arith, c.if-depth-eq0.false) in (
-      (λ used s t d e. comparing_next same some c.read-cell-pair.ensures (c.pairs.invariant.0 used s t d e)),
+      (λ used s t d e. comparing_next same some c.read_cell-pair.ensures (c.pairs.invariant.0 used s t d e)),
       (λ e. absurd (c.if-depth-eq0.false (c.pairs.invariant.1 e).1)),
     )
 
@@ -60,7 +60,7 @@ pairs-preserved c =
     let parts = c.in-Parts.ensures in
     let some : 0 < c.pairs.left = omega (arith, c.if-left-eq0.false) in (
       (λ used s t d e.
-          comparing_lefts {w = c.pairs.scratch} {w' = c.write-cell.new.words} {depth = c.pairs.depth} parts
+          comparing_lefts {w = c.pairs.scratch} {w' = c.write_cell.new.words} {depth = c.pairs.depth} parts
           some c.both-one.ensures c.both-two.ensures c.in-Ok.ensures.1
           (c.pairs.invariant.0 used s t d e)),
       (λ e. absurd (parts.2 (c.pairs.invariant.1 e).0)),

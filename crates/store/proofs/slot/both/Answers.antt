@@ -8,8 +8,8 @@ pub returns : goal.returns
 unfolding left_of right_of
 returns c =
     record {
-      left = ap (λ (x : Cell). x.left) c.read-cell.ensures ∙ ap (λ n. slot_at c.args.words.now (2 * n))
+      left = ap (λ (x : Cell). x.left) c.read_cell.ensures ∙ ap (λ n. slot_at c.args.words.now (2 * n))
           c.place.ensures;
-      right = ap (λ (x : Cell). x.right) c.read-cell.ensures ∙ ap (λ n. slot_at c.args.words.now (2 * n + 1))
+      right = ap (λ (x : Cell). x.right) c.read_cell.ensures ∙ ap (λ n. slot_at c.args.words.now (2 * n + 1))
           c.place.ensures;
     }

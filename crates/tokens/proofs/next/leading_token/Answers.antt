@@ -6,13 +6,13 @@ use Rattle.meaning.specs.Tokens.{is_letter}
 use Rattle.tokens.proofs.Cutting.{word_leads, sign_leads, byte_leads}
 use Rattle.tokens.proofs.next.leading_token.Goals as goal
 
-pub split-at-requires : goal.split-at-requires
-split-at-requires c = omega (arith, prefix_len-le-length is_letter c.args.text.now)
+pub split_at-requires : goal.split_at-requires
+split_at-requires c = omega (arith, prefix_len-le-length is_letter c.args.text.now)
 
 pub returns-then-letters-gt0 : goal.returns-then-letters-gt0
-returns-then-letters-gt0 c = word_leads c.args.text.now c.word-length-letters.result
-    c.split-at.result.0 c.split-at.result.1 c.word-length-letters.ensures c.if-letters-gt0.true
-    c.requires.1 c.split-at.ensures.front c.split-at.ensures.back
+returns-then-letters-gt0 c = word_leads c.args.text.now c.word_length-letters.result
+    c.split_at.result.0 c.split_at.result.1 c.word_length-letters.ensures c.if-letters-gt0.true
+    c.requires.1 c.split_at.ensures.front c.split_at.ensures.back
 
 pub returns-in-Some : goal.returns-in-Some
 returns-in-Some c =

@@ -7,14 +7,14 @@ pub loop-at-preserved : goal.loop-at-preserved
 loop-at-preserved c = omega (
   arith,
   prefix_len-drop_yes is_letter c.args.text.now c.loop-at.at 0
-      c.loop-at-test.true (sym c.if-is-letter.ensures),
+      c.loop-at-test.true (sym c.if-is_letter.ensures),
 )
 
-pub returns-else-is-letter : goal.returns-else-is-letter
-returns-else-is-letter c = omega (
+pub returns-else-is_letter : goal.returns-else-is_letter
+returns-else-is_letter c = omega (
   arith,
   prefix_len-drop_no is_letter c.args.text.now c.loop-at.at 0
-      c.loop-at-test.true (sym c.if-is-letter.ensures),
+      c.loop-at-test.true (sym c.if-is_letter.ensures),
 )
 
 pub returns-after-loop-at : goal.returns-after-loop-at

@@ -2,8 +2,8 @@ use Rattle.std.proofs.Common.{arith}
 use Rattle.values.proofs.Decimals.{count_again, count_last, length-decimal}
 use Rattle.values.proofs.digits.digit_count.Goals as goal
 
-pub overflow-add-count : goal.overflow-add-count
-overflow-add-count c = record { fits = omega (arith, length-decimal c.args.n c.ranges.n.fits, c.loop-rest.invariant.1) }
+pub overflow_add-count : goal.overflow_add-count
+overflow_add-count c = record { fits = omega (arith, length-decimal c.args.n c.ranges.n.fits, c.loop-rest.invariant.1) }
 
 pub loop-rest-preserved : goal.loop-rest-preserved
 loop-rest-preserved c = (

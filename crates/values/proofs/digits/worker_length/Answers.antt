@@ -3,4 +3,4 @@ use Rattle.values.proofs.Decimals.{length_worker}
 use Rattle.values.proofs.digits.worker_length.Goals as goal
 
 pub returns : goal.returns
-returns c = omega (arith, length_worker c.args.n, c.digit-count.ensures.is)
+returns c = omega (arith, length_worker c.args.n, c.digit_count.ensures.is)

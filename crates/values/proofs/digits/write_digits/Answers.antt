@@ -2,8 +2,8 @@ use Rattle.std.proofs.Common.{arith, length-set}
 use Rattle.values.proofs.Decimals.{digit_room, digit_written, digit_last, length-decimal_more}
 use Rattle.values.proofs.digits.write_digits.Goals as goal
 
-pub overflow-sub-end : goal.overflow-sub-end
-overflow-sub-end c = omega (
+pub overflow_sub-end : goal.overflow_sub-end
+overflow_sub-end c = omega (
   arith,
   length-decimal_more c.loop-rest.rest c.loop-rest-test.true c.loop-rest.invariant.0,
   c.loop-rest.invariant.1,

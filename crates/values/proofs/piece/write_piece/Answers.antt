@@ -5,8 +5,8 @@ use Rattle.values.specs.Pieces.{piece_text}
 use Rattle.values.proofs.Outputs.{written_byte, signs_written}
 use Rattle.values.proofs.piece.write_piece.Goals as goal
 
-pub write-closing-requires : goal.write-closing-requires
-write-closing-requires g c =
+pub write_closing-requires : goal.write_closing-requires
+write_closing-requires g c =
     omega (
       arith,
       c.requires,

@@ -40,9 +40,9 @@ pub returns-then-long-limit : goal.returns-then-long-limit
 returns-then-long-limit g c =
     record {
       unfit = λ {used} {v} h.
-          counting_long c.in-More.piece c.in-More.next c.piece-length-long.result c.args.limit
+          counting_long c.in-More.piece c.in-More.next c.piece_length-long.result c.args.limit
           (steps_is c.in-More.is c.in-Ok.ensures.steps)
-          c.piece-length-long.ensures (omega (arith, c.if-long-limit.true, c.pieces.invariant.0))
+          c.piece_length-long.ensures (omega (arith, c.if-long-limit.true, c.pieces.invariant.0))
           (c.pieces.invariant.1 used (text_v v) (nesting (tree_v (g.N.Names.table c.args.names.now) v))
           (remains_start c.args.scratch.now h));
     }
@@ -51,7 +51,7 @@ pub pieces-preserved : goal.pieces-preserved
 pieces-preserved g c = (
   omega (arith, c.if-long-limit.false, c.pieces.invariant.0),
   (λ used text need' r.
-      counting_more c.in-More.piece c.in-More.next c.piece-length-long.result
+      counting_more c.in-More.piece c.in-More.next c.piece_length-long.result
       (steps_is c.in-More.is c.in-Ok.ensures.steps)
-      c.advance.auto.scratch c.piece-length-long.ensures (c.pieces.invariant.1 used text need' r)),
+      c.advance.auto.scratch c.piece_length-long.ensures (c.pieces.invariant.1 used text need' r)),
 )

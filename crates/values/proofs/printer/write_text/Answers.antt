@@ -45,9 +45,9 @@ pub returns-then-long-out : goal.returns-then-long-out
 returns-then-long-out g c =
     record {
       unfit = λ {used} {v} h.
-          counting_long c.in-More.piece c.in-More.next c.piece-length-long.result
+          counting_long c.in-More.piece c.in-More.next c.piece_length-long.result
           (length c.args.out.now) (steps_is c.in-More.is c.in-Ok.ensures.steps)
-          c.piece-length-long.ensures
+          c.piece_length-long.ensures
           (omega (arith, c.if-long-out.true, c.pieces.invariant.0, c.pieces.auto.out))
           (counted c.args.out.now c.pieces.out
           (c.pieces.invariant.1 used (text_v v) (nesting (tree_v (g.N.Names.table c.args.names.now) v))
@@ -58,9 +58,9 @@ pub pieces-preserved : goal.pieces-preserved
 pieces-preserved g c = (
   omega (arith, c.if-long-out.false, c.pieces.invariant.0, c.pieces.auto.out),
   (λ used text need' r.
-      writing_more c.args.out.now c.pieces.out c.write-piece.new.out c.in-More.piece
-      c.in-More.next c.piece-length-long.result
+      writing_more c.args.out.now c.pieces.out c.write_piece.new.out c.in-More.piece
+      c.in-More.next c.piece_length-long.result
       (steps_is c.in-More.is c.in-Ok.ensures.steps) c.advance.auto.scratch
-      c.piece-length-long.ensures c.if-at-out.false c.write-piece.ensures
+      c.piece_length-long.ensures c.if-at-out.false c.write_piece.ensures
       (c.pieces.invariant.1 used text need' r)),
 )

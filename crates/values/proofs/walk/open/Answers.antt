@@ -11,7 +11,7 @@ returns-in-Ok c =
       record {
         room = c.in-Ok.ensures.0;
         wrote =
-            subst (λ (s : Slot). WroteCell c.args.scratch.now c.write-cell.new.words c.args.depth
+            subst (λ (s : Slot). WroteCell c.args.scratch.now c.write_cell.new.words c.args.depth
             (record { left = s; right = c.args.mark }))
             c.both-parts.ensures.right c.in-Ok.ensures.1;
       },

@@ -8,20 +8,20 @@ returns-then-right-eq-PAIR c =
       steps = λ e z. record {
         so = λ r.
             bar_goes c.joined-closing.result
-            (popped c.read-cell.result c.read-cell.ensures z c.requires (resumed e r))
+            (popped c.read_cell.result c.read_cell.ensures z c.requires (resumed e r))
             c.if-right-eq-PAIR.true (sym c.joined-closing.ensures);
       };
       moves = λ ns. omega arith;
     }
 
-pub returns-then-left-eq-EMPTY-TUPLE : goal.returns-then-left-eq-EMPTY-TUPLE
-returns-then-left-eq-EMPTY-TUPLE c =
+pub returns-then-left-eq-EMPTY_TUPLE : goal.returns-then-left-eq-EMPTY_TUPLE
+returns-then-left-eq-EMPTY_TUPLE c =
     record {
       steps = λ e z. record {
         so = λ r.
             brace_goes c.joined-closing.result
-            (popped c.read-cell.result c.read-cell.ensures z c.requires (resumed e r))
-            c.if-right-eq-PAIR.false c.if-left-eq-EMPTY-TUPLE.true (sym c.joined-closing.ensures);
+            (popped c.read_cell.result c.read_cell.ensures z c.requires (resumed e r))
+            c.if-right-eq-PAIR.false c.if-left-eq-EMPTY_TUPLE.true (sym c.joined-closing.ensures);
       };
       moves = λ ns. omega arith;
     }
@@ -31,8 +31,8 @@ returns c =
     record {
       steps = λ e z. record {
         so = λ r.
-            comma_after (popped c.read-cell.result c.read-cell.ensures z c.requires (resumed e r))
-            c.if-right-eq-PAIR.false c.if-left-eq-EMPTY-TUPLE.false c.open.auto.scratch c.open.result
+            comma_after (popped c.read_cell.result c.read_cell.ensures z c.requires (resumed e r))
+            c.if-right-eq-PAIR.false c.if-left-eq-EMPTY_TUPLE.false c.open.auto.scratch c.open.result
             c.open.ensures;
       };
       moves = opened_moves _ _ _ _ _ _ _ c.args.cursor c.open.result c.open.ensures;

@@ -7,8 +7,8 @@ returns-in-Ok c =
     record {
       long = search rules;
       cases =
-          put_cell c.args.self.now.words.now c.write-cell.new.words c.args.self.now.used
+          put_cell c.args.self.now.words.now c.write_cell.new.words c.args.self.now.used
           c.args.kind _ c.slot.result
-          (omega (arith, c.in-Ok.ensures.0, c.write-cell.auto.words)) c.slot.ensures.kind
+          (omega (arith, c.in-Ok.ensures.0, c.write_cell.auto.words)) c.slot.ensures.kind
           c.slot.ensures.place c.in-Ok.ensures.1;
     }

@@ -11,10 +11,10 @@ loop-byte-preserved c =
     elim c.if-byte-eq10.branch [
       | then-byte-eq10 w ↦ passes_line c.args.bytes.now c.loop-byte.byte-index _ _ _ _ _ _
           c.loop-byte-test.true c.loop-byte.invariant w.if-byte-eq10.true
-          (w.line-is ∙ w.saturating-add-line.ensures) w.column-is
+          (w.line-is ∙ w.saturating_add-line.ensures) w.column-is
       | else-byte-eq10 w ↦ passes-column c.args.bytes.now c.loop-byte.byte-index _ _ _ _ _ _
           c.loop-byte-test.true c.loop-byte.invariant w.if-byte-eq10.false w.line-is
-          (w.column-is ∙ w.saturating-add-column.ensures)
+          (w.column-is ∙ w.saturating_add-column.ensures)
     ]
 
 pub returns : goal.returns

@@ -6,10 +6,10 @@ use Rattle.values.proofs.value.Value.from_slot.Goals as goal
 
 pub returns-in-0 : goal.returns-in-0
 returns-in-0 c =
-    let back = to_z-of_z w64 c.cast-signed.result (record { sfits = c.cast-signed.type-inv }) in
+    let back = to_z-of_z w64 c.cast_signed.result (record { sfits = c.cast_signed.type_inv }) in
     record {
       value = λ h. seen_by 0 c.in-0.is h
-          ∙ ap v_int (ap (to_z w64) (sym c.joined.ensures) ∙ (sym c.cast-signed.ensures ∙ sym back));
+          ∙ ap v_int (ap (to_z w64) (sym c.joined.ensures) ∙ (sym c.cast_signed.ensures ∙ sym back));
     }
 
 pub returns-in-1 : goal.returns-in-1
@@ -30,8 +30,8 @@ returns-in-16 c = record { value = λ h. seen_by 16 c.in-16.is h }
 pub returns-in-17 : goal.returns-in-17
 returns-in-17 c = record { value = λ h. seen_by 17 c.in-17.is h }
 
-pub returns-in-default : goal.returns-in-default
-returns-in-default c =
+pub returns-in_default : goal.returns-in_default
+returns-in_default c =
     record {
       value = λ {ns} {m} {v} h. no_kind v h (λ e. omega arith) (λ e. omega arith) (λ e. omega arith)
           (λ e. omega arith) (λ e. omega arith)

@@ -1,6 +1,6 @@
 //! The tokens of a text, each on a line of its own.
 ghost use Rattle.std.specs.Prelude.{◌≡◌, [], ◌++◌, IfOk, OnOk};
-ghost use Rattle.check.specs.Listing.{Lists, described, described_byte, is_printable, token_line};
+ghost use Rattle.checker.specs.Listing.{Lists, described, described_byte, is_printable, token_line};
 
 use std::alloc::{AllocError, Global};
 use tokens::{Position, Token, next_token};

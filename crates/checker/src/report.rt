@@ -1,7 +1,7 @@
 //! The answer to a text.
 ghost use Rattle.std.specs.Prelude.{◌≡◌, length, IfOk, string_bytes};
 ghost use Rattle.meaning.specs.Tokens.{tokens, gap};
-ghost use Rattle.check.specs.Listing.{Reports, total_line};
+ghost use Rattle.checker.specs.Listing.{Reports, total_line};
 
 use super::listing::listing;
 use super::options::Detail;

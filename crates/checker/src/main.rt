@@ -1,5 +1,7 @@
 //! Reads a text from standard input, cuts it into tokens and says how many there are.
 
+#![tactic(auto)]
+
 mod failure;
 mod input;
 mod listing;

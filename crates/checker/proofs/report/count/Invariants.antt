@@ -1,6 +1,6 @@
 use Rattle.std.proofs.Common.{◌≡◌, ◌+◌, ◌≤◌, length}
 use Rattle.meaning.specs.Tokens.{tokens, gap}
-use Rattle.check.proofs.report.count.Given as goal
+use Rattle.checker.proofs.report.count.Given as goal
 
 abbrev pub invariant-loop-lexeme : goal.invariant-loop-lexeme
 invariant-loop-lexeme l = (l.count + length (tokens gap l.rest) ≡ length (tokens gap l.text))

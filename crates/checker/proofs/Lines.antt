@@ -7,7 +7,7 @@ use Rattle.tokens.specs.declared.token.Lexeme.{Lexeme}
 use Rattle.tokens.specs.Cutting.{spelling, First}
 use Rattle.tokens.specs.Position.{Behind, Passes}
 use Rattle.tokens.proofs.Placing.{begins_behind}
-use Rattle.check.specs.Listing.{Lists, no_more, one_more, token_line}
+use Rattle.checker.specs.Listing.{Lists, no_more, one_more, token_line}
 
 abbrev pub Listed : List ℕ → List ℕ → List ℕ → ℕ → ℕ → Type 0
 Listed text done rest line column = (before : List ℕ) × Behind before line column

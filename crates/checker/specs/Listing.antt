@@ -6,8 +6,8 @@ use Rattle.tokens.specs.declared.token.Token.{Token}
 use Rattle.tokens.specs.declared.token.Token.TheVariants as token
 use Rattle.tokens.specs.Cutting.{spelling, sign_bytes, First}
 use Rattle.tokens.specs.Position.{Behind}
-use Rattle.check.specs.declared.options.Detail.{Detail}
-use Rattle.check.specs.declared.options.Detail.TheVariants as detail
+use Rattle.checker.specs.declared.options.Detail.{Detail}
+use Rattle.checker.specs.declared.options.Detail.TheVariants as detail
 
 -- the bytes that can be shown as they are
 abbrev pub is_printable : ℕ → Bool
