@@ -2,7 +2,7 @@
 -- The order of two names that are not alike does not matter, so the chain may have another order than the bindings, as long
 -- as every name is found with the same value.
 use Rattle.std.specs.Prelude.{◌≡◌, ℕ, List, [], ◌∷◌, length}
-use Rattle.std.proofs.Math.Option.{Option, some}
+use Rattle.std.proofs.Math.Option.{some}
 use Rattle.meaning.specs.Basics.{Name}
 use Rattle.meaning.specs.Space.{size_values, size_bindings}
 use Rattle.meaning.specs.Values.{Value, Binding, look_up}

@@ -1,6 +1,6 @@
 -- The programs that have a tree of their own: names are in the table, numbers fit, names are bound, operations have as many
 -- operands as they take, and no pattern nests deep to the left.
-use Rattle.std.specs.Prelude.{◌≡◌, ℕ, suc, ◌^◌, ◌<◌, ◌≤◌, max, ◌⊎◌, List, [], ◌∷◌}
+use Rattle.std.specs.Prelude.{◌≡◌, ℕ, suc, ◌^◌, ◌<◌, ◌≤◌, max, ◌⊎◌, List}
 use Rattle.meaning.specs.Basics.{Name}
 use Rattle.meaning.specs.Syntax.{
   Pattern,

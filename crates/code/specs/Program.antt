@@ -1,13 +1,12 @@
 -- A program in cells: a table of names by number, and for each name the functions that have it, in all sections.
-use Rattle.std.specs.Prelude.{◌≡◌, ℕ, zero, suc, ◌+◌, ◌-◌, ◌<◌, ◌≤◌, Bool, true, cond, List, [], ◌∷◌, ◌++◌, reverse, length, take, drop}
+use Rattle.std.specs.Prelude.{◌≡◌, ℕ, zero, suc, ◌+◌, ◌≤◌, true, cond, List, [], ◌∷◌, reverse, length}
 use Rattle.std.proofs.Math.Option.{Option, some, none}
 use Rattle.meaning.specs.Basics.{Name, same}
 use Rattle.meaning.specs.Bound.{sound_modules}
-use Rattle.meaning.specs.Syntax.{Body, Function, Module, Program}
+use Rattle.meaning.specs.Syntax.{Function, Module, Program}
 use Rattle.store.specs.Tree.{Tree, leaf, node}
 use Rattle.store.specs.Heap.{Store, Den}
 use Rattle.store.specs.Slots.{slot_at}
-use Rattle.store.specs.declared.slot.Slot.{Slot}
 use Rattle.code.specs.Kinds.{signature_kind, functions_kind, function_kind}
 use Rattle.code.specs.Trees.{nothing, tree_b}
 use Rattle.code.specs.Fine.{FineB}

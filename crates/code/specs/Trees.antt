@@ -1,6 +1,6 @@
 -- Programs as trees. Names stand by their numbers in a table ns, and a variable by its index among the names in scope sc,
 -- the newest first. A pattern's tree is shaped like the tree of a value that it matches.
-use Rattle.std.specs.Prelude.{ℕ, List, [], ◌∷◌}
+use Rattle.std.specs.Prelude.{ℕ, List}
 use Rattle.meaning.specs.Basics.{Name}
 use Rattle.meaning.specs.Syntax.{
   Pattern,

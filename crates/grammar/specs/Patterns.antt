@@ -1,5 +1,5 @@
 -- Patterns: a token where one may begin, and a token behind one.
-use Rattle.std.specs.Prelude.{Bool, true, false, cond}
+use Rattle.std.specs.Prelude.{Bool, true, false}
 use Rattle.std.proofs.Math.Option.{Option, some, none}
 use Rattle.meaning.specs.Syntax.{Pattern, p_any, p_var, p_int, p_tuple, p_cons, no_p, and_p, Operation, make_tuple}
 use Rattle.meaning.specs.Syntax.{make_pair, call, far_call, spawn, far_spawn, operate, built_in, case, Clauses, no_c}

@@ -2,6 +2,7 @@
 //! of the grammar.
 
 #![tactic(auto)]
+
 ghost use Rattle.meaning.specs.Promise.{OneProgram};
 ghost use Rattle.meaning.specs.Grammar.{Reads};
 ghost use Rattle.grammar.specs.Promise.{ParseExactly, ReadExactly, NoProgram};

@@ -36,31 +36,14 @@ use Rattle.meaning.specs.Syntax.{
   Program,
 }
 use Rattle.meaning.specs.Values.{Value}
-use Rattle.meaning.specs.System.{
-  Scope,
-  Until,
-  for_ever,
-  until,
-  Control as Meant,
-  eval,
-  give,
-  enter,
-  fail,
-  wait,
-  Frame,
-  operands_frame,
-  bind_frame,
-  case_frame,
-  until_frame,
-  catch_frame,
-}
+use Rattle.meaning.specs.System.{Scope, for_ever, until, Control as Meant, eval, give, enter, fail, wait, Frame, operands_frame, bind_frame, case_frame, until_frame, catch_frame}
 use Rattle.meaning.specs.Grammar.{count}
 use Rattle.store.specs.Heap.{Store, Den}
 use Rattle.store.specs.Tree.{Tree, leaf, node}
 use Rattle.store.specs.declared.slot.Slot.{Slot}
-use Rattle.values.specs.Encoding.{index_of, Known, Holds}
+use Rattle.values.specs.Encoding.{index_of, Holds}
 use Rattle.values.specs.Space.{chain}
-use Rattle.code.specs.Kinds.{operand_kind, case_kind, receive_kind, until_kind, statement_kind}
+use Rattle.code.specs.Kinds.{operand_kind, case_kind, until_kind, statement_kind}
 use Rattle.code.specs.Trees.{nothing}
 use Rattle.code.specs.Program.{section, version_at, Stands}
 use Rattle.code.specs.Environment.{values_kind, FineValues, Binds, Environment}

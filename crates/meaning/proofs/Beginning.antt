@@ -18,7 +18,7 @@ use Rattle.meaning.specs.Turns.{Outcome, goes_on, leaves, stuck, turn_of, turn_w
 use Rattle.meaning.specs.Turns.{Taken, enter_function}
 use Rattle.meaning.specs.Moves.{settle, Move, turn, is, not_allowed, move, on_is, moves, time_of, begin, first_name}
 use Rattle.meaning.specs.Fair.{Could, Fair}
-use Rattle.meaning.specs.Scheduler.{Good, Due, first, SoFar, Entry, round, worker, Mode, flush, here, Mem, Step}
+use Rattle.meaning.specs.Scheduler.{Good, Due, SoFar, Entry, round, worker, Mode, flush, here, Mem, Step}
 use Rattle.meaning.specs.Scheduler.{by_turn, by_signal, by_tick, by_round, by_pop, Steps, start, and_step}
 use Rattle.meaning.specs.Rounds.{Leads}
 use Rattle.meaning.proofs.Queue.{Mem-worker, At-none, Mem-cases, Mem-behind}

@@ -14,7 +14,7 @@ use Rattle.meaning.specs.System.{Until, Control, eval, give, enter, fail, wait, 
 use Rattle.meaning.specs.System.{on_worker, add_mail, ended, with_new}
 use Rattle.meaning.specs.Turns.{can, take_first, Taken, Chosen, choose, keep_front}
 use Rattle.meaning.specs.Fair.{Could}
-use Rattle.meaning.specs.Scheduler.{Woken, alive, Numbered, Good, next, Entry, worker, serve, here, Mem}
+use Rattle.meaning.specs.Scheduler.{Woken, alive, Numbered, Good, Entry, worker, serve, here, Mem}
 use Rattle.meaning.proofs.Queue.{Mem-one, Mem-behind, could_not_gone, At-none}
 use Rattle.meaning.proofs.Finding.{find_here, find_there, KeepsNumber, find-change_other, find_changed}
 use Rattle.meaning.proofs.Finding.{find-append_some, find-append_none, find-gone_other, change_ends_nobody}

@@ -1,12 +1,11 @@
 -- What the tree of a program has to meet: every name is bound where it stands, by a parameter or a pattern before it;
 -- the parameters of a function differ, no two functions have one name and number, and the first module has main().
 use Rattle.std.specs.Prelude.{Bool, true, false, ◌&&◌, not, List, [], ◌∷◌, ℕ, length}
-use Rattle.std.proofs.Math.Option.{Option, some, none}
 use Rattle.meaning.specs.Basics.{opt, Name, listed}
 use Rattle.meaning.specs.Atoms.{a_main}
 use Rattle.meaning.specs.Syntax.{Pattern, p_any, p_var, p_int, p_atom, p_tuple, p_nil, p_cons, Patterns, no_p, and_p}
 use Rattle.meaning.specs.Syntax.{Expr, int, atom, var, nil, apply, case, receive, receive_until, catch, Exprs, no_e}
-use Rattle.meaning.specs.Syntax.{and_e, Body, last, bind, Clauses, no_c, clause, Function, Module, Program}
+use Rattle.meaning.specs.Syntax.{and_e, Body, last, bind, Clauses, no_c, clause, Function, Program}
 use Rattle.meaning.specs.System.{function_of}
 
 -- the names bound behind a pattern, the newest first

@@ -1,6 +1,6 @@
 -- What one turn does, by its effects: the one view of a turn that the theorems, the scheduler and the machine share.
-use Rattle.std.specs.Prelude.{◌≡◌, Bool, List, [], ◌∷◌, ◌++◌, ℕ}
-use Rattle.std.proofs.Math.Option.{Option, some, none}
+use Rattle.std.specs.Prelude.{◌≡◌, Bool, List, ℕ}
+use Rattle.std.proofs.Math.Option.{some, none}
 use Rattle.meaning.specs.Basics.{Name}
 use Rattle.meaning.specs.Atoms.{a_gone, a_old}
 use Rattle.meaning.specs.Syntax.{Program}

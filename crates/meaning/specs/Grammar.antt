@@ -1,5 +1,5 @@
 -- From tokens to programs: which tokens are which tree. What makes a text a program is `Reads`, at the end.
-use Rattle.std.specs.Prelude.{◌≡◌, Bool, true, false, ◌&&◌, ◌||◌, not, cond, List, [], ◌∷◌, ◌++◌, ℕ, suc, ◌+◌, ◌-◌, ◌*◌, ◌<◌, length, codes, leb, T}
+use Rattle.std.specs.Prelude.{◌≡◌, Bool, true, ◌&&◌, ◌||◌, not, cond, List, [], ◌∷◌, ◌++◌, ℕ, suc, ◌+◌, ◌-◌, ◌*◌, ◌<◌, length, codes, leb, T}
 use Rattle.std.proofs.Math.Option.{Option, some, none}
 use Rattle.meaning.specs.Basics.{Name, same, listed}
 use Rattle.meaning.specs.Syntax.{Pattern, p_any, p_var, p_int, p_atom, p_tuple, p_nil, p_cons, Patterns, no_p, and_p}
@@ -7,7 +7,7 @@ use Rattle.meaning.specs.Syntax.{Operator, plus, minus, times, divide, modulo, e
 use Rattle.meaning.specs.Syntax.{send, self, link, exit, trap, show, register, whereis, swap, make_tuple, make_pair}
 use Rattle.meaning.specs.Syntax.{call, far_call, spawn, far_spawn, operate, built_in, Expr, int, atom, var, nil}
 use Rattle.meaning.specs.Syntax.{apply, case, receive, receive_until, catch, Exprs, no_e, and_e, Body, last, bind}
-use Rattle.meaning.specs.Syntax.{Clauses, no_c, clause, Function, Module, Program}
+use Rattle.meaning.specs.Syntax.{Clauses, no_c, clause, Function, Program}
 use Rattle.meaning.specs.Tokens.{is_digit, is_letter, gap, tokens}
 use Rattle.meaning.specs.Bound.{has_main, sound_modules}
 

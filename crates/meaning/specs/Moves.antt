@@ -3,7 +3,7 @@ use Rattle.std.specs.Prelude.{Bool, true, false, ◌&&◌, ◌||◌, not, cond, 
 use Rattle.std.proofs.Math.Option.{Option, some, none}
 use Rattle.meaning.specs.Basics.{opt, on_some, Name}
 use Rattle.meaning.specs.Atoms.{a_normal, a_exit, a_main}
-use Rattle.meaning.specs.Syntax.{Module, Program}
+use Rattle.meaning.specs.Syntax.{Program}
 use Rattle.meaning.specs.Values.{Value, v_atom, v_tuple, v_pid, no_v, and_v, same_v}
 use Rattle.meaning.specs.System.{until, for_ever, Control, eval, give, enter, fail, wait, Worker, Signal, Loaded}
 use Rattle.meaning.specs.System.{System, with_signals, with_clock, find, on_worker, set_control, send_mail}

@@ -1,6 +1,6 @@
 -- What holds of every program, at every stage, in whatever order its moves are made.
 use Rattle.std.specs.Prelude.{◌≡◌, ◌⊎◌, ◌↔◌, Bool, true, false, ◌&&◌, ◌||◌, cond, List, [], ◌∷◌, ◌++◌, ℕ, ◌+◌, ◌-◌, ◌<◌, ◌≤◌, length, eqb, ltb}
-use Rattle.std.proofs.Math.Option.{Option, some, none}
+use Rattle.std.proofs.Math.Option.{some, none}
 use Rattle.meaning.specs.Basics.{Name, same}
 use Rattle.meaning.specs.Atoms.{a_normal, a_old}
 use Rattle.meaning.specs.Syntax.{Program}

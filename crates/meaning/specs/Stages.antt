@@ -1,12 +1,12 @@
 -- The stage of a program is the highest of its forms': 0 the core; 1 lists; 2 waiting until;
 -- 3 links and ends; 4 several modules; 5 catch; 6 swap; 7 names.
-use Rattle.std.specs.Prelude.{Bool, true, false, ◌||◌, cond, List, [], ◌∷◌, ℕ, max}
+use Rattle.std.specs.Prelude.{Bool, false, ◌||◌, cond, List, [], ◌∷◌, ℕ, max}
 use Rattle.meaning.specs.Basics.{Name, same}
 use Rattle.meaning.specs.Syntax.{Pattern, p_any, p_var, p_int, p_atom, p_tuple, p_nil, p_cons, Patterns, no_p, and_p}
 use Rattle.meaning.specs.Syntax.{Builtin, send, self, link, exit, trap, show, register, whereis, swap, Operation}
 use Rattle.meaning.specs.Syntax.{make_tuple, make_pair, call, far_call, spawn, far_spawn, operate, built_in, Expr}
 use Rattle.meaning.specs.Syntax.{int, atom, var, nil, apply, case, receive, receive_until, catch, Exprs, no_e, and_e}
-use Rattle.meaning.specs.Syntax.{Body, last, bind, Clauses, no_c, clause, Function, Module, Program}
+use Rattle.meaning.specs.Syntax.{Body, last, bind, Clauses, no_c, clause, Function, Program}
 
 abbrev mutual
   pub stage_pattern : Pattern → ℕ

@@ -1,9 +1,9 @@
 -- A system: its workers, the signals on their way, the clock, which versions are current, and names.
-use Rattle.std.specs.Prelude.{◌≡◌, Bool, true, false, ◌&&◌, ◌||◌, cond, List, [], ◌∷◌, ◌++◌, ℕ, pred, ◌+◌, length, eqb, ltb}
+use Rattle.std.specs.Prelude.{◌≡◌, Bool, false, ◌&&◌, ◌||◌, cond, List, [], ◌∷◌, ◌++◌, ℕ, pred, ◌+◌, length, eqb, ltb}
 use Rattle.std.proofs.Math.Option.{Option, some, none}
 use Rattle.meaning.specs.Basics.{Name, same}
 use Rattle.meaning.specs.Atoms.{a_old}
-use Rattle.meaning.specs.Syntax.{Pattern, Operation, Expr, Exprs, Body, Clauses, Function, Module, Program}
+use Rattle.meaning.specs.Syntax.{Pattern, Operation, Expr, Exprs, Body, Clauses, Function, Program}
 use Rattle.meaning.specs.Values.{Value, v_atom, Binding}
 
 -- where code is at work: what its names are bound to, in which version of which module

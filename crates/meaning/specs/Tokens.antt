@@ -1,6 +1,6 @@
 -- From bytes to tokens: words of letters, digits and _; the signs -> :: == != <=; all other bytes one by one.
 -- Blanks, tabs, CR and LF only part tokens, and # begins a comment that goes to the end of the line.
-use Rattle.std.specs.Prelude.{Bool, true, false, ◌&&◌, ◌||◌, cond, List, [], ◌∷◌, ◌++◌, ℕ, eqb, leb}
+use Rattle.std.specs.Prelude.{Bool, ◌&&◌, ◌||◌, cond, List, [], ◌∷◌, ◌++◌, ℕ, eqb, leb}
 use Rattle.meaning.specs.Basics.{Name}
 
 abbrev pub is_digit : ℕ → Bool

@@ -4,11 +4,11 @@ use Rattle.std.proofs.Math.Option.{Option, some, none}
 use Rattle.meaning.specs.Basics.{opt, on_some, Name}
 use Rattle.meaning.specs.Atoms.{a_type, a_match, a_clause, a_zero, a_big, a_undef, a_normal, a_gone, a_ok, a_error}
 use Rattle.meaning.specs.Atoms.{a_none, a_true, a_false}
-use Rattle.meaning.specs.Syntax.{Pattern, Operator, plus, minus, times, divide, modulo, equal, unequal, less, at_most}
+use Rattle.meaning.specs.Syntax.{Operator, plus, minus, times, divide, modulo, equal, unequal, less, at_most}
 use Rattle.meaning.specs.Syntax.{Builtin, send, self, link, exit, trap, show, register, whereis, swap, Operation}
 use Rattle.meaning.specs.Syntax.{make_tuple, make_pair, call, far_call, spawn, far_spawn, operate, built_in, Expr}
 use Rattle.meaning.specs.Syntax.{int, atom, var, nil, apply, case, receive, receive_until, catch, Exprs, no_e, and_e}
-use Rattle.meaning.specs.Syntax.{Body, last, bind, Clauses, no_c, clause, Function, Program}
+use Rattle.meaning.specs.Syntax.{Body, last, bind, Clauses, no_c, clause, Program}
 use Rattle.meaning.specs.Values.{Value, v_int, v_atom, v_tuple, v_nil, v_cons, v_pid, no_v, and_v, as_int, as_atom}
 use Rattle.meaning.specs.Values.{as_pid, same_v, less_int, tuple, Binding, look_up, match, text_v, fits, quotient}
 use Rattle.meaning.specs.Values.{remainder, is_zero}

@@ -2,10 +2,10 @@
 use Rattle.std.specs.Prelude.{◌≡◌, List, [], ◌∷◌, ℕ, codes}
 use Rattle.std.proofs.Math.Option.{some}
 use Rattle.meaning.specs.Basics.{Name}
-use Rattle.meaning.specs.Syntax.{Pattern, p_any, p_var, p_int, p_atom, p_tuple, no_p, and_p, Operator, plus, divide}
-use Rattle.meaning.specs.Syntax.{Builtin, send, self, link, trap, show, swap, Operation, make_tuple, call, far_call}
+use Rattle.meaning.specs.Syntax.{Pattern, p_any, p_var, p_int, p_atom, p_tuple, no_p, and_p, plus, divide}
+use Rattle.meaning.specs.Syntax.{send, self, link, trap, show, swap, Operation, make_tuple, call, far_call}
 use Rattle.meaning.specs.Syntax.{spawn, operate, built_in, Expr, int, atom, var, apply, receive, receive_until, catch}
-use Rattle.meaning.specs.Syntax.{Exprs, no_e, and_e, Body, last, bind, Clauses, no_c, clause, Function, Module}
+use Rattle.meaning.specs.Syntax.{no_e, and_e, Body, last, bind, Clauses, no_c, clause, Function, Module}
 use Rattle.meaning.specs.Syntax.{Program}
 use Rattle.meaning.specs.System.{System}
 use Rattle.meaning.specs.Moves.{Move, is, moves, begin}

@@ -1,8 +1,14 @@
 //! The tests; a list of n elements is n nodes along a right edge, which ends in a leaf.
 
 use crate::{PAIR, spine_of, triple};
+use std::alloc::{AllocError, Global};
 use std::test::Fail;
 use store::{Full, Heap, Slot, collect, read_slot, write_slot};
+
+/// So many words, all 0; the prover need not write them out where their number is a large literal.
+fn zeros(alloc: Global, n: usize) -> Result<Vec<u32>, AllocError> {
+    vec![in alloc; 0; n]
+}
 
 fn number(n: u32) -> Slot {
     Slot {
@@ -38,7 +44,7 @@ fn shared(heap: &mut Heap<'_>, n: u32) -> Result<Slot, Full> {
 
 #[test]
 fn long_lists_are_compared(rt: HostRuntime) -> Result<(), Fail> {
-    let mut words = vec![in rt.alloc(); 0; 1_800_000]?;
+    let mut words = zeros(rt.alloc(), 1_800_000)?;
     let mut heap = Heap {
         words: &mut words,
         used: 0,
@@ -86,7 +92,7 @@ fn trees_wait_on_the_stack(rt: HostRuntime) -> Result<(), Fail> {
 
 #[test]
 fn a_list_is_collected(rt: HostRuntime) -> Result<(), Fail> {
-    let mut words = vec![in rt.alloc(); 0; 600_000]?;
+    let mut words = zeros(rt.alloc(), 600_000)?;
     let mut roots = [0; 6];
     let mut heap = Heap {
         words: &mut words,
@@ -95,7 +101,7 @@ fn a_list_is_collected(rt: HostRuntime) -> Result<(), Fail> {
     let all = list(&mut heap, 100_000, number(1))?;
     write_slot(&mut roots, 0, number(5))?;
     write_slot(&mut roots, 1, all)?;
-    let mut other = vec![in rt.alloc(); 0; 1_200_000]?;
+    let mut other = zeros(rt.alloc(), 1_200_000)?;
     assert_eq!(rt; collect(&words, &mut other, &mut roots), Ok(100_000));
     assert_eq!(rt; read_slot(&roots, 0), number(5));
     let copy = read_slot(&roots, 1);
@@ -119,14 +125,14 @@ fn sharing_is_undone(rt: HostRuntime) -> Result<(), Fail> {
     };
     let all = shared(&mut heap, 20)?;
     write_slot(&mut roots, 0, all)?;
-    let mut short = vec![in rt.alloc(); 0; 6_291_449]?;
+    let mut short = zeros(rt.alloc(), 6_291_449)?;
     assert_eq!(rt;
         collect(&words, &mut short, &mut roots),
         Err(Full),
         "one word too few"
     );
     assert_eq!(rt; read_slot(&roots, 0), all, "a refusal leaves the roots");
-    let mut other = vec![in rt.alloc(); 0; 6_291_450]?;
+    let mut other = zeros(rt.alloc(), 6_291_450)?;
     assert_eq!(rt; collect(&words, &mut other, &mut roots), Ok(1_048_575));
     Ok(())
 }

@@ -1,4 +1,4 @@
-use Rattle.std.proofs.Common.{arith, rules}
+use Rattle.std.proofs.Common.{arith}
 use Rattle.machine.proofs.Standing.{grows_on, grows_put, grows_lacks, framing}
 use Rattle.machine.proofs.frames.make_frame.Goals as goal
 

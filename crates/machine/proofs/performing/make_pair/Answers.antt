@@ -1,4 +1,3 @@
-use Rattle.std.proofs.Common.{arith}
 use Rattle.machine.proofs.Standing.{grows_put, grows_lacks}
 use Rattle.machine.proofs.Operating.{pair_made}
 use Rattle.machine.proofs.performing.make_pair.Goals as goal

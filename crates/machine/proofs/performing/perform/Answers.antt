@@ -1,6 +1,4 @@
-use Rattle.std.proofs.Common.{◌≡◌, sym, ap, ◌∙◌, arith}
-use Rattle.code.specs.Operation.{operation_at}
-use Rattle.code.proofs.Operations.{operation_as}
+use Rattle.std.proofs.Common.{arith}
 use Rattle.machine.proofs.Standing.{grows_none}
 use Rattle.machine.proofs.Performs.{operation_in, perform-tuple, perform-pair, perform-call, perform-no-call, perform-spawn, perform-no-spawn, perform-far-call, perform-far-spawn, perform-operate, perform-large, perform-ask, perform_unknown}
 use Rattle.machine.proofs.performing.perform.Goals as goal

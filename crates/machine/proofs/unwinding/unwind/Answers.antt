@@ -1,4 +1,3 @@
-use Rattle.std.proofs.Common.{arith}
 use Rattle.machine.proofs.Standing.{grows_none, frame_as}
 use Rattle.machine.proofs.Stepping.{unwind-operands, unwind-bind, unwind-case, unwind-until, unwind-bottom, unwind-catch}
 use Rattle.machine.proofs.unwinding.unwind.Goals as goal

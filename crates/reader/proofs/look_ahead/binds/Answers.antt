@@ -1,5 +1,4 @@
-use Rattle.std.proofs.Common.{sym, ap, ◌∙◌, arith}
-use Rattle.grammar.specs.LookAhead.{binds}
+use Rattle.std.proofs.Common.{sym, ◌∙◌, arith}
 use Rattle.reader.proofs.LookingAhead.{binds-passes}
 use Rattle.reader.proofs.look_ahead.binds.Goals as goal
 
