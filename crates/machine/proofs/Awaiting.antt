@@ -16,7 +16,7 @@ use Rattle.meaning.specs.System.{
   on_worker,
   set_mail,
 }
-use Rattle.meaning.specs.Turns.{Taken as Took-up, goes_on, rebind, take_first, timed_out, look_at_mail}
+use Rattle.meaning.specs.Turns.{Taken as TookUp, goes_on, rebind, take_first, timed_out, look_at_mail}
 use Rattle.code.specs.Code.{CodeB, CodeCs}
 use Rattle.machine.specs.Receiving.{due_at, WaitedIs}
 use Rattle.machine.specs.State.{World, SiteIs, ControlIs, enter_is, wait_is, wait_until_is}
@@ -53,7 +53,7 @@ awaits (wait_until_is sc c si) =
     record { scope = sc; clauses = record { stands = node_left c.stands; fine = c.fine.0 }; site = si }
 
 -- what the meaning says where a message is taken, and where none is
-looked : (s : System) (me : Worker) (cs : Clauses) (u : Until) (w : Scope) {o : Maybe Took-up} →
+looked : (s : System) (me : Worker) (cs : Clauses) (u : Until) (w : Scope) {o : Maybe TookUp} →
     take_first cs w.vars me.mail ≡ o → look_at_mail s me cs u w ≡ opt o (timed_out s me.frames u w)
     (λ t. some (goes_on (enter t.chosen.body (rebind w t.chosen.vars)) me.frames
     (on_worker s me.pid (set_mail t.rest))))

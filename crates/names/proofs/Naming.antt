@@ -1,7 +1,7 @@
 -- The laws of the names of a text. A word that is added was not known, so no name stands twice; names go to the end, so
 -- the atoms of the language keep their numbers, and what is known stays known.
 use Rattle.std.proofs.Common.{◌≡◌, ℕ, suc, ◌+◌, ◌<◌, ◌≤◌, Bool, true, false, cond, not, ◌&&◌, T, ◌⊎◌, List, [], ◌∷◌, ◌++◌, length, sym, refl, ap, ◌∙◌, subst, inl, inr, append_assoc, append-nil, arith}
-use Rattle.std.specs.List.{AllByRecursion as All}
+use Rattle.std.specs.List.{AllByRecursion}
 use Rattle.std.proofs.ByRecursion.{All-weaker}
 use Rattle.std.proofs.lemmas.List.{length-append}
 use Rattle.std.proofs.lemmas.Bool.{false≢true, both_ways, not-true, cases_Bool, and_parts, or_cases, or_left, or_right, cond-true, cond-false}
@@ -207,7 +207,7 @@ own_numbers more =
       main_is = refl;
     }
 
-all_known : (xs : List Name) → All (Known xs) xs
+all_known : (xs : List Name) → AllByRecursion (Known xs) xs
 all_known [] = tt
 all_known (x ∷ xs) = (inl (same_refl x), All-weaker (Known xs) (Known (x ∷ xs)) (λ w k. inr k) xs (all_known xs))
 

@@ -1,7 +1,7 @@
 -- The names of a text, each once: the atoms that the language itself uses, which have fixed numbers, and then the words of
 -- the text that can be a name or an atom, in the order in which they come first.
 use Rattle.std.specs.Prelude.{◌≡◌, ℕ, ◌+◌, ◌*◌, ◌<◌, ◌≤◌, cond, not, ◌&&◌, List, [], ◌∷◌, ◌++◌, length}
-use Rattle.std.specs.List.{AllByRecursion as All}
+use Rattle.std.specs.List.{AllByRecursion}
 use Rattle.meaning.specs.Atoms.{a_type, a_match, a_clause, a_zero, a_big, a_undef, a_normal, a_old, a_gone, a_ok, a_error, a_exit, a_none, a_true, a_false, a_main}
 use Rattle.meaning.specs.Basics.{Name, listed}
 use Rattle.meaning.specs.Grammar.{is_atom}
@@ -54,7 +54,7 @@ pub record OwnNumbers (ns : List Name) : Type 0 where
 pub record NamesOf (text : List ℕ) : Type 0 where
   -- every word of the text that can be a name or an atom is there
   pub knows : Knows (names_of text) (tokens gap text)
-  pub own_known : All (Known (names_of text)) own_atoms
+  pub own_known : AllByRecursion (Known (names_of text)) own_atoms
   pub own_numbers : OwnNumbers (names_of text)
   pub distinct : Distinct (names_of text)
   pub least : 16 ≤ length (names_of text)

@@ -1,7 +1,7 @@
 //! Whether a statement binds: `e;` and `p = e;` begin alike, so the reader looks ahead for the `=`.
 ghost use Rattle.std.specs.Prelude.{◌≡◌, ℕ, ◌+◌, ◌^◌, ◌<◌, List};
 ghost use Rattle.meaning.specs.Tokens.{gap, tokens};
-ghost use Rattle.grammar.specs.LookAhead.{binds as binding, landmark as token-landmark};
+ghost use Rattle.grammar.specs.LookAhead.{binds as binding, landmark as token_landmark};
 ghost use Rattle.grammar.specs.Classes.{c_separate};
 ghost use Rattle.reader.specs.Classes.{class_means, separator_means};
 ghost use Rattle.reader.specs.LookAhead.{Passes, landmark_means};
@@ -78,7 +78,7 @@ fn pass_landmark(depth: usize, landmark: Landmark) -> Passing
 
 // The landmark that a token of the class is.
 fn landmark_of(class: Class) -> Landmark
-    ensures { (w : List ℕ) → landmark_means result ≡ token-landmark (class_means class w) }
+    ensures { (w : List ℕ) → landmark_means result ≡ token_landmark (class_means class w) }
 {
     match class {
         Class::Open(_) => Landmark::Open,
@@ -95,7 +95,7 @@ fn landmark_of(class: Class) -> Landmark
 
 // The landmark that a separator is.
 fn separator_landmark(separator: Separator) -> Landmark
-    ensures { landmark_means result ≡ token-landmark (c_separate (separator_means separator)) }
+    ensures { landmark_means result ≡ token_landmark (c_separate (separator_means separator)) }
 {
     match separator {
         Separator::Equals => Landmark::Equals,
