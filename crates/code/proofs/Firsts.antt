@@ -18,18 +18,18 @@ module _ {A B : Type 0} (test : A → Bool) (give : A → B) where
   or_else none p = p
   or_else (some b) p = some b
 
-  first-append : (xs bs : List A) → first (xs ++ bs) ≡ or_else (first xs) (first bs)
-  first-append [] bs = refl
-  first-append (x ∷ xs) bs = bool_all (λ t. cond t (some (give x)) (first (xs ++ bs)) ≡ or_else (cond t (some (give x)) (first xs)) (first bs)) (test x) (λ h. refl) (λ h. first-append xs bs)
+  first_append : (xs bs : List A) → first (xs ++ bs) ≡ or_else (first xs) (first bs)
+  first_append [] bs = refl
+  first_append (x ∷ xs) bs = bool_all (λ t. cond t (some (give x)) (first (xs ++ bs)) ≡ or_else (cond t (some (give x)) (first xs)) (first bs)) (test x) (λ h. refl) (λ h. first_append xs bs)
 
-  or-none : (o : Option B) → or_else o none ≡ o
-  or-none none = refl
-  or-none (some b) = refl
+  or_none : (o : Option B) → or_else o none ≡ o
+  or_none none = refl
+  or_none (some b) = refl
 
-  pub first-reverse : (xs : List A) → Once xs → first (reverse xs) ≡ first xs
-  first-reverse [] o = refl
-  first-reverse (x ∷ xs) o = ap first (reverse-cons x xs) ∙ (first-append (reverse xs) (x ∷ []) ∙ (ap (λ p. or_else p (first (x ∷ []))) (first-reverse xs o.1) ∙ last_one (test x) refl))
+  pub first_reverse : (xs : List A) → Once xs → first (reverse xs) ≡ first xs
+  first_reverse [] o = refl
+  first_reverse (x ∷ xs) o = ap first (reverse-cons x xs) ∙ (first_append (reverse xs) (x ∷ []) ∙ (ap (λ p. or_else p (first (x ∷ []))) (first_reverse xs o.1) ∙ last_one (test x) refl))
     where
       last_one : (t : Bool) → test x ≡ t → or_else (first xs) (cond t (some (give x)) none) ≡ cond t (some (give x)) (first xs)
       last_one true h = ap (λ p. or_else p (some (give x))) (o.0 h)
-      last_one false h = or-none (first xs)
+      last_one false h = or_none (first xs)

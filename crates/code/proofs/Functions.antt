@@ -19,7 +19,7 @@ use Rattle.store.specs.declared.slot.Slot.{Slot}
 use Rattle.values.specs.Encoding.{index_of, Known}
 use Rattle.meaning.proofs.Splits.{T_of, no_clash, none_some, some_is, eqb_no, eqb_yes, eqb_is, same_is, same_refl}
 use Rattle.store.proofs.Laws.{node_is, node_left, node_right, spine-fits}
-use Rattle.code.proofs.Firsts.{first, Once, first-reverse}
+use Rattle.code.proofs.Firsts.{first, Once, first_reverse}
 use Rattle.code.proofs.Instructions.{leaf_has_kind, leaf_has_low, leaf_has_high}
 
 -- is a definition the function y with c parameters of the section n
@@ -87,7 +87,7 @@ once_definitions k n y c (m ∷ ms) s =
 pub seek-newest : (n : ℕ) (y : Name) (c : ℕ) (g : Program) {m : Module} → sound_modules g ≡ true → section g n ≡ some m → seek n y c (newest_first g) ≡ function_of m.functions y c
 seek-newest n y c g s e =
     let z : 0 + n ≡ n = omega arith in
-    first-reverse (wanted n y c) function (definitions 0 g) (once_definitions 0 n y c g s) ∙ (rw z at (seek-section 0 n y c g e))
+    first_reverse (wanted n y c) function (definitions 0 g) (once_definitions 0 n y c g s) ∙ (rw z at (seek-section 0 n y c g e))
 
 -- the parameters of a function differ
 function_different : (fs : List Function) (y : Name) (c : ℕ) {f : Function} → sound_functions fs ≡ true → function_of fs y c ≡ some f → (length f.params ≡ c) × (all_different f.params ≡ true)
@@ -209,13 +209,13 @@ nth_index (x ∷ ns) y k = go (same x y) refl k (nth_index ns y)
 
 module _ {code : List ℕ} (functions : List ℕ) {s t : Slot} {i n : ℕ} (f : ℕ) {c : ℕ} (ws : Walks code s t i n c) (start : s ≡ slot_at functions f) where
   -- the walk in a program that stands there
-  in-program : {ns : List Name} {used : ℕ} {g : Program} (y : Name) → Stands ns (store_of code used) functions g → Known ns y → f ≡ index_of ns y → Walked ns (store_of code used) t i n y c (newest_first g)
-  in-program {ns} {used} {g} y st k e = ws.to y (newest_first g) st.fine (subst (λ z. Den (store_of code used) z (tree_d ns y (newest_first g))) (sym start) (st.chains f y (ap (nth ns) e ∙ nth_index ns y k)))
+  in_program : {ns : List Name} {used : ℕ} {g : Program} (y : Name) → Stands ns (store_of code used) functions g → Known ns y → f ≡ index_of ns y → Walked ns (store_of code used) t i n y c (newest_first g)
+  in_program {ns} {used} {g} y st k e = ws.to y (newest_first g) st.fine (subst (λ z. Den (store_of code used) z (tree_d ns y (newest_first g))) (sym start) (st.chains f y (ap (nth ns) e ∙ nth_index ns y k)))
 
-  pub walk-finds : {u v r : Slot} {b : Bool} → t.kind ≡ 29 → u ≡ left_of code t → v ≡ left_of code u → b ≡ (eqb v.low n && eqb v.high c) → b ≡ true → r ≡ right_of code u → Finds code functions n f c (Some r)
-  walk-finds {u} {v} {r} k p q b h e = record {
+  pub walk_finds : {u v r : Slot} {b : Bool} → t.kind ≡ 29 → u ≡ left_of code t → v ≡ left_of code u → b ≡ (eqb v.low n && eqb v.high c) → b ≡ true → r ≡ right_of code u → Finds code functions n f c (Some r)
+  walk_finds {u} {v} {r} k p q b h e = record {
     is = λ {ns} {used} {g} {m} y st se kn ix.
-        let a = in-program y st kn ix in
+        let a = in_program y st kn ix in
         let l = link_of n y c a.left k a.fine a.stands in
         let o : function_of m.functions y c ≡ some l.head.function = sym (seek-newest n y c g st.sound se) ∙ (a.sought ∙ (l.sought ∙ ap (λ z. cond z (some l.head.function) (seek n y c l.others)) (sym (signature_is l p q) ∙ (sym b ∙ h)))) in
         let w = function_different m.functions y c (sound-section g n st.sound se) o in
@@ -229,13 +229,13 @@ module _ {code : List ℕ} (functions : List ℕ) {s t : Slot} {i n : ℕ} (f : 
       subst (λ z. FunctionIs ns (store_of code used) c None z) (sym o) no_function_is
 
   pub walk_ends : (t.kind ≡ 29 → ⊥) → Finds code functions n f c None
-  walk_ends k = record { is = λ y st se kn ix. ends_at y st se (in-program y st kn ix) k }
+  walk_ends k = record { is = λ y st se kn ix. ends_at y st se (in_program y st kn ix) k }
 
   -- the chain is no longer than the code has cells
-  pub walk-over : length code ≤ i → Finds code functions n f c None
-  walk-over long = record {
+  pub walk_over : length code ≤ i → Finds code functions n f c None
+  walk_over long = record {
     is = λ {ns} {used} {g} {m} y st se kn ix.
-        let a = in-program y st kn ix in
+        let a = in_program y st kn ix in
         ends_at y st se a (λ k. let l = link_of n y c a.left k a.fine a.stands in omega (arith, a.steps, l.shorter, st.within, long));
   }
 

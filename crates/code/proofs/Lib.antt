@@ -5,4 +5,6 @@ pub mod Functions
 pub mod Variables
 pub mod Decoding
 pub mod Chains
+pub mod Nesting
+pub mod Wider
 pub mod Fineness

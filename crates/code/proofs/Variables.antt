@@ -17,7 +17,7 @@ use Rattle.store.specs.declared.slot.Slot.{Slot}
 use Rattle.values.specs.Encoding.{index_of, Known, Holds}
 use Rattle.meaning.proofs.Splits.{T_of, no_clash, bool_all, none_some, some_is, same_is, same_refl}
 use Rattle.store.proofs.Laws.{node_left, node_right}
-use Rattle.code.proofs.Firsts.{first, Once, first-reverse}
+use Rattle.code.proofs.Firsts.{first, Once, first_reverse}
 
 -- so many steps down a chain
 abbrev pub descend : List ℕ → ℕ → Slot → Slot
@@ -131,7 +131,7 @@ pub operands_bind : (xs : List Name) (vs : List Value) → all_different xs ≡ 
 operands_bind xs vs d l = record {
   long = length-reverse vs ∙ (l ∙ sym (length-reverse xs));
   finds = λ y.
-      ap (λ bs. look_up bs y) (bind_pairs xs vs) ∙ (look_first y (pair_up xs vs) ∙ (sym (first-reverse (named y) valued (pair_up xs vs) (once_named y xs vs d))
+      ap (λ bs. look_up bs y) (bind_pairs xs vs) ∙ (look_first y (pair_up xs vs) ∙ (sym (first_reverse (named y) valued (pair_up xs vs) (once_named y xs vs d))
       ∙ (sym (look_first y (reverse (pair_up xs vs))) ∙ ap (λ bs. look_up bs y) (sym (pair_up-reverse xs vs l)))));
   size = size_reverse vs ∙ sym (size_params xs vs l);
 }

@@ -24,15 +24,15 @@ mutual
   bound_by_alike (p_var y) xs ys h = λ x. ap (λ b. same x y || b) (h x)
   bound_by_alike (p_int n) xs ys h = h
   bound_by_alike (p_atom y) xs ys h = h
-  bound_by_alike (p_tuple ps) xs ys h = bound-by-all-alike ps xs ys h
+  bound_by_alike (p_tuple ps) xs ys h = bound_by_all_alike ps xs ys h
   bound_by_alike p_nil xs ys h = h
   bound_by_alike (p_cons a b) xs ys h = bound_by_alike b (bound_by a xs) (bound_by a ys) (bound_by_alike a xs ys h)
 
-  pub bound-by-all-alike :
+  pub bound_by_all_alike :
       (ps : Patterns) (xs ys : List Name) → Alike xs ys → Alike (bound_by_all ps xs) (bound_by_all ps ys)
-  bound-by-all-alike no_p xs ys h = h
-  bound-by-all-alike (and_p p ps) xs ys h =
-      bound-by-all-alike ps (bound_by p xs) (bound_by p ys) (bound_by_alike p xs ys h)
+  bound_by_all_alike no_p xs ys h = h
+  bound_by_all_alike (and_p p ps) xs ys h =
+      bound_by_all_alike ps (bound_by p xs) (bound_by p ys) (bound_by_alike p xs ys h)
 
 pub both : {a b c d : Bool} → a ≡ b → c ≡ d → (a && c) ≡ (b && d)
 both p q = cc
@@ -44,10 +44,10 @@ mutual
   bound_expr_alike (var x) xs ys h = h x
   bound_expr_alike nil xs ys h = refl
   bound_expr_alike (apply o es) xs ys h = bound_exprs_alike es xs ys h
-  bound_expr_alike (case e cs) xs ys h = both (bound_expr_alike e xs ys h) (bound-clauses-alike cs xs ys h)
-  bound_expr_alike (receive cs) xs ys h = bound-clauses-alike cs xs ys h
+  bound_expr_alike (case e cs) xs ys h = both (bound_expr_alike e xs ys h) (bound_clauses_alike cs xs ys h)
+  bound_expr_alike (receive cs) xs ys h = bound_clauses_alike cs xs ys h
   bound_expr_alike (receive_until cs e b) xs ys h =
-      both (bound-clauses-alike cs xs ys h) (both (bound_expr_alike e xs ys h) (bound_body_alike b xs ys h))
+      both (bound_clauses_alike cs xs ys h) (both (bound_expr_alike e xs ys h) (bound_body_alike b xs ys h))
   bound_expr_alike (catch b) xs ys h = bound_body_alike b xs ys h
 
   pub bound_exprs_alike : (es : Exprs) (xs ys : List Name) → Alike xs ys → bound_exprs xs es ≡ bound_exprs ys es
@@ -60,12 +60,12 @@ mutual
       both (bound_expr_alike e xs ys h)
       (bound_body_alike b (bound_by p xs) (bound_by p ys) (bound_by_alike p xs ys h))
 
-  pub bound-clauses-alike :
+  pub bound_clauses_alike :
       (cs : Clauses) (xs ys : List Name) → Alike xs ys → bound_clauses xs cs ≡ bound_clauses ys cs
-  bound-clauses-alike no_c xs ys h = refl
-  bound-clauses-alike (clause p b cs) xs ys h =
+  bound_clauses_alike no_c xs ys h = refl
+  bound_clauses_alike (clause p b cs) xs ys h =
       both (bound_body_alike b (bound_by p xs) (bound_by p ys) (bound_by_alike p xs ys h))
-      (bound-clauses-alike cs xs ys h)
+      (bound_clauses_alike cs xs ys h)
 
 pub or_turned : (a b c : Bool) → (a || (b || c)) ≡ ((b || a) || c)
 or_turned true true c = refl
@@ -87,33 +87,33 @@ reverse_alike xs = λ x. listed-reverse-onto x xs [] ∙ or-false (listed x xs)
 pub newest_part_first : (x e s : Bool) → (x && (e && s)) ≡ ((e && x) && s)
 newest_part_first x e s = grind arith
 
-pub operands-bound :
+pub operands_bound :
     (xs : Snoc Expr) (ys : List Name) (es : Exprs) →
     bound_exprs ys (exprs_of xs es) ≡ (fine_operands ys xs && bound_exprs ys es)
-operands-bound none_yet ys es = refl
-operands-bound (snoc xs e) ys es =
-    operands-bound xs ys (and_e e es)
+operands_bound none_yet ys es = refl
+operands_bound (snoc xs e) ys es =
+    operands_bound xs ys (and_e e es)
     ∙ newest_part_first (fine_operands ys xs) (bound_expr ys e) (bound_exprs ys es)
 
-pub arms-bound :
+pub arms_bound :
     (xs : Snoc Arm) (ys : List Name) (cs : Clauses) →
     bound_clauses ys (clauses_of xs cs) ≡ (fine_arms ys xs && bound_clauses ys cs)
-arms-bound none_yet ys cs = refl
-arms-bound (snoc xs (arm p b)) ys cs =
-    arms-bound xs ys (clause p b cs)
+arms_bound none_yet ys cs = refl
+arms_bound (snoc xs (arm p b)) ys cs =
+    arms_bound xs ys (clause p b cs)
     ∙ newest_part_first (fine_arms ys xs) (bound_body (bound_by p ys) b) (bound_clauses ys cs)
 
-pub statements-bound :
+pub statements_bound :
     (xs : Snoc Statement) (ys : List Name) (b : Body) →
     bound_body ys (body_of xs b) ≡ (fine_statements ys xs && bound_body (after_statements xs ys) b)
-statements-bound none_yet ys b = refl
-statements-bound (snoc xs (statement p e)) ys b =
-    statements-bound xs ys (bind p e b)
+statements_bound none_yet ys b = refl
+statements_bound (snoc xs (statement p e)) ys b =
+    statements_bound xs ys (bind p e b)
     ∙ newest_part_first (fine_statements ys xs) (bound_expr (after_statements xs ys) e)
     (bound_body (bound_by p (after_statements xs ys)) b)
 
-pub patterns-bind :
+pub patterns_bind :
     (xs : Snoc Pattern) (ys : List Name) (ps : Patterns) →
     bound_by_all (patterns_of xs ps) ys ≡ bound_by_all ps (after_patterns xs ys)
-patterns-bind none_yet ys ps = refl
-patterns-bind (snoc xs p) ys ps = patterns-bind xs ys (and_p p ps)
+patterns_bind none_yet ys ps = refl
+patterns_bind (snoc xs p) ys ps = patterns_bind xs ys (and_p p ps)

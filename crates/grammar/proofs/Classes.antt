@@ -205,20 +205,20 @@ builtin_takes swap_word = tt
 pub letters_none : (x : Name) → T (all_letters x) → landmark (class_of x) ≡ l_none
 letters_none x h = way (class_of x) (class_tells x)
   where
-    opening-no : (b : Bracket) → T (all_letters (opening b)) → ⊥
-    opening-no paren q = q
-    opening-no brace q = q
+    opening_no : (b : Bracket) → T (all_letters (opening b)) → ⊥
+    opening_no paren q = q
+    opening_no brace q = q
 
-    closing-no : (b : Bracket) → T (all_letters (closing b)) → ⊥
-    closing-no paren q = q
-    closing-no brace q = q
+    closing_no : (b : Bracket) → T (all_letters (closing b)) → ⊥
+    closing_no paren q = q
+    closing_no brace q = q
 
     way : (c : Class) → Tells x c → landmark c ≡ l_none
     way (c_number n) q = refl
     way (c_name y) q = refl
     way (c_operator t m o) q = refl
-    way (c_open b) q = absurd (opening-no b (subst (λ z. T (all_letters z)) q h))
-    way (c_close b) q = absurd (closing-no b (subst (λ z. T (all_letters z)) q h))
+    way (c_open b) q = absurd (opening_no b (subst (λ z. T (all_letters z)) q h))
+    way (c_close b) q = absurd (closing_no b (subst (λ z. T (all_letters z)) q h))
     way (c_builtin f) q = refl
     way (c_start s) q = refl
     way (c_separate s_comma) q = refl

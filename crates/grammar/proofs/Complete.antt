@@ -15,7 +15,7 @@ use Rattle.grammar.specs.Stack.{in_function, top_level, after_module, after_modu
 use Rattle.grammar.specs.Stack.{want_parameter, after_parameter, after_parameters}
 use Rattle.grammar.proofs.Classes.{differ}
 use Rattle.grammar.proofs.ReadsPatterns.{then_run}
-use Rattle.grammar.proofs.ReadsExprs.{then-when, reads-body}
+use Rattle.grammar.proofs.ReadsExprs.{then-when, reads_body}
 
 -- parameters: behind a comma another must come
 abbrev pub more_names : Snoc Name → List Name → Bool
@@ -23,35 +23,35 @@ more_names none_yet xs = true
 more_names (snoc acc x) [] = false
 more_names (snoc acc x) (y ∷ ys) = true
 
-pub reads-parameter :
+pub reads_parameter :
     (x : Name) (acc : Snoc Name) (m : Modules) (y : Name) (ws : List Name) → T (is_name y) →
     run (want_parameter x acc m) (y ∷ ws) ≡ run (after_parameter x (snoc acc y) m) ws
-reads-parameter x none_yet m y ws h =
+reads_parameter x none_yet m y ws h =
     rw (differ (λ z. T (is_name z)) y close_paren h (λ q. q))
     (then-when y (after_parameter x (snoc none_yet y) m) ws h)
-reads-parameter x (snoc acc z) m y ws h = then-when y (after_parameter x (snoc (snoc acc z) y) m) ws h
+reads_parameter x (snoc acc z) m y ws h = then-when y (after_parameter x (snoc (snoc acc z) y) m) ws h
 
-pub reads-names :
+pub reads_names :
     {s ps : List Name} → NamesOf s ps → (x : Name) (acc : Snoc Name) (m : Modules) →
     T (more_names acc ps) → (ws : List Name) →
     run (want_parameter x acc m) (s ++ (close_paren ∷ ws)) ≡ run (after_parameters x (list_of acc ps) m) ws
-reads-names no_n x none_yet m f ws = refl
-reads-names no_n x (snoc acc y) m f ws = absurd f
-reads-names (one_n {x = y} h) x acc m f ws = reads-parameter x acc m y (close_paren ∷ ws) h
-reads-names (more_n {x = y} {s = s} h d) x acc m f ws =
-    reads-parameter x acc m y (comma ∷ (s ++ (close_paren ∷ ws))) h ∙ reads-names d x (snoc acc y) m tt ws
+reads_names no_n x none_yet m f ws = refl
+reads_names no_n x (snoc acc y) m f ws = absurd f
+reads_names (one_n {x = y} h) x acc m f ws = reads_parameter x acc m y (close_paren ∷ ws) h
+reads_names (more_n {x = y} {s = s} h d) x acc m f ws =
+    reads_parameter x acc m y (comma ∷ (s ++ (close_paren ∷ ws))) h ∙ reads_names d x (snoc acc y) m tt ws
 
 -- functions
-pub reads-function :
+pub reads_function :
     {s : List Name} {f : Function} → FunctionOf s f →
     (m : Modules) (y : Name) (acc : Snoc Function) (ws : List Name) →
     run (top_level (in_module m y acc)) (s ++ ws) ≡ run (top_level (in_module m y (snoc acc f))) ws
-reads-function (function_x {x = x} {s = s} {t = t} {ps = ps} h d g) m y acc ws =
+reads_function (function_x {x = x} {s = s} {t = t} {ps = ps} h d g) m y acc ws =
     let here : Modules = in_module m y acc in
     simp append_assoc
     (then-when x (after_fn_name x here) (open_paren ∷ (s ++ (close_paren ∷ open_brace ∷ (t ++ (close_brace ∷ ws))))) h
-    ∙ reads-names d x none_yet here tt (open_brace ∷ (t ++ (close_brace ∷ ws)))
-    ∙ reads-body g none_yet (in_function x ps here) ws)
+    ∙ reads_names d x none_yet here tt (open_brace ∷ (t ++ (close_brace ∷ ws)))
+    ∙ reads_body g none_yet (in_function x ps here) ws)
 
 abbrev pub snoc_all : Snoc Function → List Function → Snoc Function
 snoc_all acc [] = acc
@@ -61,36 +61,36 @@ pub list_of_snoc_all : (acc : Snoc Function) (fs : List Function) → list_of (s
 list_of_snoc_all acc [] = refl
 list_of_snoc_all acc (f ∷ fs) = list_of_snoc_all (snoc acc f) fs
 
-pub reads-functions :
+pub reads_functions :
     {s : List Name} {fs : List Function} → FunctionsOf s fs →
     (m : Modules) (y : Name) (acc : Snoc Function) (ws : List Name) →
     run (top_level (in_module m y acc)) (s ++ ws) ≡ run (top_level (in_module m y (snoc_all acc fs))) ws
-reads-functions no_f m y acc ws = refl
-reads-functions (more_f {t = t} {f = f} d g) m y acc ws =
-    simp append_assoc (reads-function d m y acc (t ++ ws) ∙ reads-functions g m y (snoc acc f) ws)
+reads_functions no_f m y acc ws = refl
+reads_functions (more_f {t = t} {f = f} d g) m y acc ws =
+    simp append_assoc (reads_function d m y acc (t ++ ws) ∙ reads_functions g m y (snoc acc f) ws)
 
 -- modules
 pub module_begins : (m : Modules) → at_top_level m k_module ≡ some (after_module m)
 module_begins no_module = refl
 module_begins (in_module m x acc) = refl
 
-pub reads-module :
+pub reads_module :
     (x : Name) {s : List Name} {fs : List Function} → T (is_name x) → FunctionsOf s fs →
     (m : Modules) (t : List Name) →
     run (top_level m) (k_module ∷ x ∷ semicolon ∷ (s ++ t)) ≡ run (top_level (in_module m x (snoc_all none_yet fs))) t
-reads-module x {s} h d m t =
+reads_module x {s} h d m t =
     ap (λ o. then_run o (x ∷ semicolon ∷ (s ++ t))) (module_begins m)
-    ∙ then-when x (after_module_name x m) (semicolon ∷ (s ++ t)) h ∙ reads-functions d m x none_yet t
+    ∙ then-when x (after_module_name x m) (semicolon ∷ (s ++ t)) h ∙ reads_functions d m x none_yet t
 
-pub reads-modules :
+pub reads_modules :
     {s : List Name} {g : Program} → ModulesOf s g → (m : Modules) →
     on_some (run (top_level m) s) program_at ≡ some (program_of m g)
-reads-modules no_m m = refl
-reads-modules (more_m {x = x} {t = t} {fs = fs} {ms = ms} h d g) m =
-    ap (λ o. on_some o program_at) (reads-module x h d m t)
-    ∙ reads-modules g (in_module m x (snoc_all none_yet fs))
+reads_modules no_m m = refl
+reads_modules (more_m {x = x} {t = t} {fs = fs} {ms = ms} h d g) m =
+    ap (λ o. on_some o program_at) (reads_module x h d m t)
+    ∙ reads_modules g (in_module m x (snoc_all none_yet fs))
     ∙ ap (λ fs. some (program_of m (module_of x fs ∷ ms))) (list_of_snoc_all none_yet fs)
 
 -- whatever tokens are a program, the machine reads that program
 pub complete : {s : List Name} {g : Program} → ModulesOf s g → parse s ≡ some g
-complete d = reads-modules d no_module
+complete d = reads_modules d no_module

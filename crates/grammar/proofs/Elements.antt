@@ -23,15 +23,15 @@ pub data Made {A : Type 0} (Each : A → List Name → Type 0) : Snoc A → List
       {xs : Snoc A} {x : A} {s t v : List Name} → Made Each xs s → Each x t → v ≡ s ++ t → Made Each (snoc xs x) v
 
 -- what each element does to a whole, the elements do together
-pub made-onto :
+pub made_onto :
     {A C : Type 0} {Each : A → List Name → Type 0} (Whole : List Name → C → Type 0) (f : A → C → C) →
     ((x : A) (t s : List Name) (c : C) → Each x t → Whole s c → Whole (t ++ s) (f x c)) →
     {xs : Snoc A} {s : List Name} → Made Each xs s → (t : List Name) (c : C) → Whole t c →
     Whole (s ++ t) (onto f xs c)
-made-onto Whole f one made_none t c d = d
-made-onto Whole f one (made_more {xs = xs} {x = x} {s = s} {t = u} m e q) t c d =
+made_onto Whole f one made_none t c d = d
+made_onto Whole f one (made_more {xs = xs} {x = x} {s = s} {t = u} m e q) t c d =
     subst (λ z. Whole z (onto f xs (f x c))) (sym (ap (λ z. z ++ t) q ∙ append_assoc s u t))
-    (made-onto Whole f one m (u ++ t) (f x c) (one x u t c e d))
+    (made_onto Whole f one m (u ++ t) (f x c) (one x u t c e d))
 
 -- the elements: each with the sign behind it
 pub data Argument : Expr → List Name → Type 0 where
@@ -77,10 +77,10 @@ abbrev pub begun_names : List Name → Bool
 begun_names [] = false
 begun_names (x ∷ xs) = true
 
-pub exprs-made :
+pub exprs_made :
     {acc : Snoc Expr} {s : List Name} → Made Argument acc s → (t : List Name) (es : Exprs) → T (begun es) →
     ExprsOf t es → ExprsOf (s ++ t) (exprs_of acc es)
-exprs-made m t es h d = (made-onto (λ v es. T (begun es) × ExprsOf v es) and_e one m t es (h, d)).1
+exprs_made m t es h d = (made_onto (λ v es. T (begun es) × ExprsOf v es) and_e one m t es (h, d)).1
   where
     one :
         (e : Expr) (s t : List Name) (es : Exprs) → Argument e s → T (begun es) × ExprsOf t es →
@@ -90,10 +90,10 @@ exprs-made m t es h d = (made-onto (λ v es. T (begun es) × ExprsOf v es) and_e
         let text = ap (λ z. z ++ t) q ∙ append_assoc x (comma ∷ []) t in
         (tt, subst (λ z. ExprsOf z (and_e e (and_e f fs))) (sym text) (more_es d w.1))
 
-pub patterns-made :
+pub patterns_made :
     {acc : Snoc Pattern} {s : List Name} → Made Element acc s → (t : List Name) (ps : Patterns) →
     T (begun_patterns ps) → PatternsOf t ps → PatternsOf (s ++ t) (patterns_of acc ps)
-patterns-made m t ps h d = (made-onto (λ v ps. T (begun_patterns ps) × PatternsOf v ps) and_p one m t ps (h, d)).1
+patterns_made m t ps h d = (made_onto (λ v ps. T (begun_patterns ps) × PatternsOf v ps) and_p one m t ps (h, d)).1
   where
     one :
         (p : Pattern) (s t : List Name) (ps : Patterns) → Element p s → T (begun_patterns ps) × PatternsOf t ps →
@@ -103,10 +103,10 @@ patterns-made m t ps h d = (made-onto (λ v ps. T (begun_patterns ps) × Pattern
         let text = ap (λ z. z ++ t) e ∙ append_assoc x (comma ∷ []) t in
         (tt, subst (λ z. PatternsOf z (and_p p (and_p q qs))) (sym text) (more_x d w.1))
 
-pub names-made :
+pub names_made :
     {acc : Snoc Name} {s : List Name} → Made Parameter acc s → (t : List Name) (xs : List Name) → T (begun_names xs) →
     NamesOf t xs → NamesOf (s ++ t) (list_of acc xs)
-names-made m t xs h d = (made-onto (λ v xs. T (begun_names xs) × NamesOf v xs) ◌∷◌ one m t xs (h, d)).1
+names_made m t xs h d = (made_onto (λ v xs. T (begun_names xs) × NamesOf v xs) ◌∷◌ one m t xs (h, d)).1
   where
     one :
         (x : Name) (s t : List Name) (xs : List Name) → Parameter x s → T (begun_names xs) × NamesOf t xs →
@@ -115,10 +115,10 @@ names-made m t xs h d = (made-onto (λ v xs. T (begun_names xs) × NamesOf v xs)
     one x s t (y ∷ ys) (parameter h q) w =
         (tt, subst (λ z. NamesOf z (x ∷ y ∷ ys)) (sym (ap (λ z. z ++ t) q)) (more_n h w.1))
 
-pub body-made :
+pub body_made :
     {acc : Snoc Statement} {s : List Name} → Made StatementMade acc s → (t : List Name) (b : Body) → BodyOf t b →
     BodyOf (s ++ t) (body_of acc b)
-body-made m t b d = made-onto BodyOf bind_statement one m t b d
+body_made m t b d = made_onto BodyOf bind_statement one m t b d
   where
     one :
         (x : Statement) (s t : List Name) (b : Body) → StatementMade x s → BodyOf t b →
@@ -128,10 +128,10 @@ body-made m t b d = made-onto BodyOf bind_statement one m t b d
     one (statement p e) s t b (binding_statement {s = x} {t = y} d g q) w =
         subst (λ z. BodyOf z (bind p e b)) (sym (ap (λ z. z ++ t) q ∙ simp append_assoc)) (bind_b d g w)
 
-pub clauses-made :
+pub clauses_made :
     {acc : Snoc Arm} {s : List Name} → Made ClauseMade acc s → (t : List Name) (cs : Clauses) → ClausesOf t cs →
     ClausesOf (s ++ t) (clauses_of acc cs)
-clauses-made m t cs d = made-onto ClausesOf add_arm one m t cs d
+clauses_made m t cs d = made_onto ClausesOf add_arm one m t cs d
   where
     one :
         (x : Arm) (s t : List Name) (cs : Clauses) → ClauseMade x s → ClausesOf t cs →
@@ -139,18 +139,18 @@ clauses-made m t cs d = made-onto ClausesOf add_arm one m t cs d
     one (arm p b) s t cs (clause_made {s = x} {t = y} d g q) w =
         subst (λ z. ClausesOf z (clause p b cs)) (sym (ap (λ z. z ++ t) q ∙ simp append_assoc)) (more_cs d g w)
 
-pub functions-made :
+pub functions_made :
     {acc : Snoc Function} {s : List Name} → Made FunctionMade acc s → (t : List Name) (fs : List Function) →
     FunctionsOf t fs → FunctionsOf (s ++ t) (list_of acc fs)
-functions-made m t fs d = made-onto FunctionsOf ◌∷◌ (λ f s t fs g w. more_f g w) m t fs d
+functions_made m t fs d = made_onto FunctionsOf ◌∷◌ (λ f s t fs g w. more_f g w) m t fs d
 
-pub modules-made :
+pub modules_made :
     {m : Modules} {s : List Name} → ModulesMade m s → (t : List Name) (g : Program) → ModulesOf t g →
     ModulesOf (s ++ t) (program_of m g)
-modules-made made_no_module t g d = d
-modules-made (made_module {m = m} {x = x} {acc = acc} {s = s} {t = u} st h f q) t g d =
+modules_made made_no_module t g d = d
+modules_made (made_module {m = m} {x = x} {acc = acc} {s = s} {t = u} st h f q) t g d =
     let fs = list_of acc [] in
-    let functions : FunctionsOf u fs = subst (λ z. FunctionsOf z fs) (append-nil u) (functions-made f [] [] no_f) in
+    let functions : FunctionsOf u fs = subst (λ z. FunctionsOf z fs) (append-nil u) (functions_made f [] [] no_f) in
     subst (λ z. ModulesOf z (program_of m (module_of x fs ∷ g)))
     (sym (ap (λ z. z ++ t) q ∙ append_assoc s (k_module ∷ x ∷ semicolon ∷ u) t))
-    (modules-made st (k_module ∷ x ∷ semicolon ∷ (u ++ t)) (module_of x fs ∷ g) (more_m h functions d))
+    (modules_made st (k_module ∷ x ∷ semicolon ∷ (u ++ t)) (module_of x fs ∷ g) (more_m h functions d))

@@ -125,37 +125,37 @@ pub all_at_least : (n : ℕ) → leb 0 n ≡ true
 all_at_least n = is_true (leb 0 n) (le→leb 0 n (omega arith))
 
 -- what may follow an operand of level m applies the operator that waits for it
-pub after-operand :
+pub after_operand :
     (m : ℕ) (o : Operation) (a e : Expr) (k : ExprStack) (c : Class) → T (follows m c) →
     after_expr e (operand m o a k) c ≡ after_expr (binary o a e) k c
-after-operand l i a e k (c_number n) h = absurd h
-after-operand l i a e k (c_name x) h = absurd h
-after-operand l i a e k (c_operator t m o) h = rw (is_true (leb t l) h)
-after-operand l i a e k (c_open paren) h = absurd h
-after-operand l i a e k (c_open brace) h = rw (all_at_least l)
-after-operand l i a e k (c_close b) h = rw (all_at_least l)
-after-operand l i a e k (c_builtin f) h = absurd h
-after-operand l i a e k (c_start s) h = absurd h
-after-operand l i a e k (c_separate s_comma) h = rw (all_at_least l)
-after-operand l i a e k (c_separate s_semicolon) h = rw (all_at_least l)
-after-operand l i a e k (c_separate s_equals) h = absurd h
-after-operand l i a e k (c_separate s_arrow) h = absurd h
-after-operand l i a e k c_other h = absurd h
+after_operand l i a e k (c_number n) h = absurd h
+after_operand l i a e k (c_name x) h = absurd h
+after_operand l i a e k (c_operator t m o) h = rw (is_true (leb t l) h)
+after_operand l i a e k (c_open paren) h = absurd h
+after_operand l i a e k (c_open brace) h = rw (all_at_least l)
+after_operand l i a e k (c_close b) h = rw (all_at_least l)
+after_operand l i a e k (c_builtin f) h = absurd h
+after_operand l i a e k (c_start s) h = absurd h
+after_operand l i a e k (c_separate s_comma) h = rw (all_at_least l)
+after_operand l i a e k (c_separate s_semicolon) h = rw (all_at_least l)
+after_operand l i a e k (c_separate s_equals) h = absurd h
+after_operand l i a e k (c_separate s_arrow) h = absurd h
+after_operand l i a e k c_other h = absurd h
 
 -- what may follow an expression does not make a name a call, nor clauses wait for a time
-pub follows-differs :
+pub follows_differs :
     (n : ℕ) (w x : Name) → T (follows n (class_of w)) → (T (follows n (class_of x)) → ⊥) → same w x ≡ false
-follows-differs n w x h q = differ (λ z. T (follows n (class_of z))) w x h q
+follows_differs n w x h q = differ (λ z. T (follows n (class_of z))) w x h q
 
-pub name-is-variable :
+pub name_is_variable :
     (n : ℕ) (x : Name) (k : ExprStack) (w : Name) → T (follows n (class_of w)) →
     name_ends x k w ≡ after_expr (var x) k (class_of w)
-name-is-variable n x k w h = rw (follows-differs n w open_paren h (λ q. q), follows-differs n w colon h (λ q. q))
+name_is_variable n x k w h = rw (follows_differs n w open_paren h (λ q. q), follows_differs n w colon h (λ q. q))
 
-pub no-until :
+pub no_until :
     (n : ℕ) (cs : Clauses) (k : ExprStack) (w : Name) → T (follows n (class_of w)) →
     clauses_end cs k w ≡ after_expr (receive cs) k (class_of w)
-no-until n cs k w h = rw (follows-differs n w k_until h (λ q. q))
+no_until n cs k w h = rw (follows_differs n w k_until h (λ q. q))
 
 -- what may stand behind a pattern: of level 1 also ::
 abbrev pub follows_pattern : ℕ → Class → Bool
@@ -187,18 +187,18 @@ follows_plain (c_separate s_arrow) h = tt
 follows_plain c_other h = absurd h
 
 -- behind the right part of :: the two parts are put together
-pub after-cons :
+pub after_cons :
     (a p : Pattern) (k : PatternStack) (c : Class) → T (follows_pattern 0 c) →
     after_pattern p (in_cons a k) c ≡ after_pattern (p_cons a p) k c
-after-cons a p k (c_number n) h = absurd h
-after-cons a p k (c_name x) h = absurd h
-after-cons a p k (c_operator t m o) h = absurd (and_T (is_pair o) false h).1
-after-cons a p k (c_open b) h = absurd h
-after-cons a p k (c_close b) h = refl
-after-cons a p k (c_builtin f) h = absurd h
-after-cons a p k (c_start s) h = absurd h
-after-cons a p k (c_separate s_comma) h = refl
-after-cons a p k (c_separate s_semicolon) h = absurd h
-after-cons a p k (c_separate s_equals) h = refl
-after-cons a p k (c_separate s_arrow) h = refl
-after-cons a p k c_other h = absurd h
+after_cons a p k (c_number n) h = absurd h
+after_cons a p k (c_name x) h = absurd h
+after_cons a p k (c_operator t m o) h = absurd (and_T (is_pair o) false h).1
+after_cons a p k (c_open b) h = absurd h
+after_cons a p k (c_close b) h = refl
+after_cons a p k (c_builtin f) h = absurd h
+after_cons a p k (c_start s) h = absurd h
+after_cons a p k (c_separate s_comma) h = refl
+after_cons a p k (c_separate s_semicolon) h = absurd h
+after_cons a p k (c_separate s_equals) h = refl
+after_cons a p k (c_separate s_arrow) h = refl
+after_cons a p k c_other h = absurd h

@@ -37,29 +37,29 @@ pub data OwnerMade : Owner → List Name → Type 0 where
 
 -- what stands up to the opening bracket of a list of operands
 pub data OperationMade : Bracket → Operation → List Name → Type 0 where
-  open-tuple : OperationMade brace make_tuple (open_brace ∷ [])
-  open-call : {f : Name} → T (is_name f) → OperationMade paren (call f) (f ∷ open_paren ∷ [])
-  open-far :
+  open_tuple : OperationMade brace make_tuple (open_brace ∷ [])
+  open_call : {f : Name} → T (is_name f) → OperationMade paren (call f) (f ∷ open_paren ∷ [])
+  open_far :
       {m f : Name} → T (is_name m) → T (is_name f) →
       OperationMade paren (far_call m f) (m ∷ colon ∷ f ∷ open_paren ∷ [])
-  open-spawn : {f : Name} → T (is_name f) → OperationMade paren (spawn f) (k_spawn ∷ f ∷ open_paren ∷ [])
-  open-far-spawn :
+  open_spawn : {f : Name} → T (is_name f) → OperationMade paren (spawn f) (k_spawn ∷ f ∷ open_paren ∷ [])
+  open_far_spawn :
       {m f : Name} → T (is_name m) → T (is_name f) →
       OperationMade paren (far_spawn m f) (k_spawn ∷ m ∷ colon ∷ f ∷ open_paren ∷ [])
-  open-builtin :
+  open_builtin :
       {w : Name} {n : Builtin} → ((k : ℕ) → T (takes n k) → BuiltinWord w n k) →
       OperationMade paren (built_in n) (w ∷ open_paren ∷ [])
 
 -- and then operands and the closing bracket: an expression
-pub operation-closes :
+pub operation_closes :
     {b : Bracket} {j : Operation} {o : List Name} → OperationMade b j o → (s : List Name) (es : Exprs) →
     ExprsOf s es → T (arity_fits j es) → ExprAt 4 (o ++ (s ++ (closing b ∷ []))) (apply j es)
-operation-closes open-tuple s es d r = tuple_e d
-operation-closes (open-call h) s es d r = call_e h d
-operation-closes (open-far g h) s es d r = far_e g h d
-operation-closes (open-spawn h) s es d r = spawn_e h d
-operation-closes (open-far-spawn g h) s es d r = spawn_far_e g h d
-operation-closes (open-builtin h) s es d r = builtin_e (h (count es) r) d refl
+operation_closes open_tuple s es d r = tuple_e d
+operation_closes (open_call h) s es d r = call_e h d
+operation_closes (open_far g h) s es d r = far_e g h d
+operation_closes (open_spawn h) s es d r = spawn_e h d
+operation_closes (open_far_spawn g h) s es d r = spawn_far_e g h d
+operation_closes (open_builtin h) s es d r = builtin_e (h (count es) r) d refl
 
 -- Stacks. What waits right of an operand fits its level: that is why applying it later is a rule of the grammar.
 mutual
@@ -217,7 +217,7 @@ reshape u s u' s' w e = sym (append_assoc u s (w ∷ [])) ∙ (ap (λ z. z ++ (w
 pub followed : {v : List Name} (u s : List Name) → v ≡ u ++ s → (w : Name) → v ++ (w ∷ []) ≡ u ++ (s ++ (w ∷ []))
 followed u s q w = behind q (w ∷ []) ∙ append_assoc u s (w ∷ [])
 
-pub followed-by :
+pub followed_by :
     {v : List Name} (u s : List Name) → v ≡ u ++ s → (w x : Name) → T (same w x) →
     v ++ (w ∷ []) ≡ u ++ (s ++ (x ∷ []))
-followed-by u s q w x h = followed u s q w ∙ ap (λ z. u ++ (s ++ (z ∷ []))) (same_is w x h)
+followed_by u s q w x h = followed u s q w ∙ ap (λ z. u ++ (s ++ (z ∷ []))) (same_is w x h)

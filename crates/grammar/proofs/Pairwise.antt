@@ -30,12 +30,12 @@ and_left_comm true b c = refl
 and_left_comm false true c = refl
 and_left_comm false false c = refl
 
-pub apart-middle :
+pub apart_middle :
     {A : Type 0} (r : A → A → Bool) (x : A) (xs : List A) (y : A) (ys : List A) →
     apart r x (xs ++ (y ∷ ys)) ≡ (r x y && apart r x (xs ++ ys))
-apart-middle r x [] y ys = refl
-apart-middle r x (z ∷ xs) y ys =
-    ap (λ b. r x z && b) (apart-middle r x xs y ys) ∙ and_left_comm (r x z) (r x y) (apart r x (xs ++ ys))
+apart_middle r x [] y ys = refl
+apart_middle r x (z ∷ xs) y ys =
+    ap (λ b. r x z && b) (apart_middle r x xs y ys) ∙ and_left_comm (r x z) (r x y) (apart r x (xs ++ ys))
 
 -- x and y, each apart from the others and itself in order: which of the two comes first does not count
 pub exchanged :
@@ -49,7 +49,7 @@ pub pairwise_middle :
 pairwise_middle r own symmetric [] y ys = refl
 pairwise_middle {A} r own symmetric (x ∷ xs) y ys =
     let rest : List A = xs ++ ys in
-    ap (λ b. b && (own x && pairwise r own (xs ++ (y ∷ ys)))) (apart-middle r x xs y ys)
+    ap (λ b. b && (own x && pairwise r own (xs ++ (y ∷ ys)))) (apart_middle r x xs y ys)
     ∙ ap (λ b. (r x y && apart r x rest) && (own x && b)) (pairwise_middle r own symmetric xs y ys)
     ∙ exchanged (r x y) (apart r x rest) (apart r y rest) (own x) (own y) (pairwise r own rest)
     ∙ ap (λ b. (b && apart r y rest) && (own y && (apart r x rest && (own x && pairwise r own rest)))) (symmetric x y)
@@ -118,20 +118,20 @@ pub none_found :
 none_found true g o = refl
 none_found false g o = refl
 
-pub no-function-apart :
+pub no_function_apart :
     (f : Function) (gs : List Function) → no_function gs f.name (length f.params) ≡ apart unlike f gs
-no-function-apart f [] = refl
-no-function-apart f (g ∷ gs) =
+no_function_apart f [] = refl
+no_function_apart f (g ∷ gs) =
     none_found (same g.name f.name && eqb (length g.params) (length f.params)) g
     (function_of gs f.name (length f.params))
-    ∙ ap (λ b. unlike f g && b) (no-function-apart f gs)
+    ∙ ap (λ b. unlike f g && b) (no_function_apart f gs)
 
 pub sound-pairwise : (fs : List Function) → sound_functions fs ≡ pairwise unlike sound_function fs
 sound-pairwise [] = refl
 sound-pairwise (f ∷ fs) =
     let distinct = all_different f.params in
     let bound = bound_body f.params f.body in
-    ap (λ b. b && (distinct && (bound && sound_functions fs))) (no-function-apart f fs)
+    ap (λ b. b && (distinct && (bound && sound_functions fs))) (no_function_apart f fs)
     ∙ ap (λ b. apart unlike f fs && b) (sym (and_assoc distinct bound (sound_functions fs)))
     ∙ ap (λ b. apart unlike f fs && (sound_function f && b)) (sound-pairwise fs)
 

@@ -29,7 +29,7 @@ use Rattle.grammar.specs.Checks.{fine_operands, fine_arms, fine_owner, fine_stat
 use Rattle.grammar.specs.Checks.{fine_body_stack, fine_patterns, fine_state, new_at_end, new_if_closed, passes_behind}
 use Rattle.meaning.proofs.Splits.{OnSome, cond_all}
 use Rattle.grammar.proofs.Pairwise.{and_left_comm}
-use Rattle.grammar.proofs.Boundness.{reverse_alike, bound_body_alike, operands-bound, arms-bound, statements-bound}
+use Rattle.grammar.proofs.Boundness.{reverse_alike, bound_body_alike, operands_bound, arms_bound, statements_bound}
 
 -- if the machine goes on, then its state is fine exactly if b
 abbrev pub Follows : Bool → Option State → Type 0
@@ -94,48 +94,48 @@ reduce-closes t e (in_binding p xs k) = refl
 pub shift_fine : (m : ℕ) (o : Operation) (e : Expr) (k : ExprStack) → Follows (fine_in e k) (shift m o e k)
 shift_fine m o e k = cond_follows (eqb m 0 && comparing k) none (some (want_expr (operand m o e k))) (fine_in e k) tt refl
 
-pub close-list-fine :
+pub close_list_fine :
     (b c : Bracket) (o : Operation) (es : Exprs) (k : ExprStack) →
     Follows (bound_exprs (scope k) es && fine_exprs k) (close_list b c o es k)
-close-list-fine b c o es k = when-follows (same_bracket b c && arity_fits o es) _ _ refl
+close_list_fine b c o es k = when-follows (same_bracket b c && arity_fits o es) _ _ refl
 
 -- a body ends; of a function the parameters are bound, in either order
-pub close-body-fine :
+pub close_body_fine :
     (b : Body) (k : BodyStack) →
     Follows (new_at_end k && (bound_body (body_scope k) b && fine_body_stack k)) (close_body b k)
-close-body-fine b (in_arm p h xs k) =
+close_body_fine b (in_arm p h xs k) =
     with_last_arm (fine_owner (scope k) h) (bound_body (body_scope (in_arm p h xs k)) b) (fine_arms (scope k) xs)
     (fine_exprs k)
-close-body-fine b (in_timeout cs e k) =
+close_body_fine b (in_timeout cs e k) =
     with_timeout (bound_clauses (scope k) cs) (bound_expr (scope k) e) (bound_body (scope k) b) (fine_exprs k)
-close-body-fine b (in_catch k) = refl
-close-body-fine b (in_function x ps no_module) = tt
-close-body-fine b (in_function x ps (in_module m y fs)) =
+close_body_fine b (in_catch k) = refl
+close_body_fine b (in_function x ps no_module) = tt
+close_body_fine b (in_function x ps (in_module m y fs)) =
     with_function (no_function (newest fs) x (length ps)) (all_different ps) (bound_body ps b)
     (sound_functions (newest fs)) (fine_modules m)
     ∙ ap (λ d. no_function (newest fs) x (length ps) && (d && fine_body_stack (in_function x ps (in_module m y fs))))
     (sym (bound_body_alike b (body_scope (in_function x ps m)) ps (reverse_alike ps)))
 
-pub close-expr-fine :
+pub close_expr_fine :
     (b : Bracket) (e : Expr) (k : ExprStack) → Follows (new_if_closed k && fine_in e k) (close_expr b e k)
-close-expr-fine b e (operand m o a k) = tt
-close-expr-fine b e (in_parens k) = when-follows (same_bracket b paren) _ _ refl
-close-expr-fine b e (in_list c o xs k) =
+close_expr_fine b e (operand m o a k) = tt
+close_expr_fine b e (in_parens k) = when-follows (same_bracket b paren) _ _ refl
+close_expr_fine b e (in_list c o xs k) =
     subst (λ d. Follows d (close_expr b e (in_list c o xs k)))
-    (ap (λ d. d && fine_exprs k) (operands-bound xs (scope k) (and_e e no_e))
+    (ap (λ d. d && fine_exprs k) (operands_bound xs (scope k) (and_e e no_e))
     ∙ with_last_operand (fine_operands (scope k) xs) (bound_expr (scope k) e) (fine_exprs k))
-    (close-list-fine b c o (exprs_of xs (and_e e no_e)) k)
-close-expr-fine b e (in_case k) = tt
-close-expr-fine b e (in_until cs k) = tt
-close-expr-fine b e (in_statement xs k) =
+    (close_list_fine b c o (exprs_of xs (and_e e no_e)) k)
+close_expr_fine b e (in_case k) = tt
+close_expr_fine b e (in_until cs k) = tt
+close_expr_fine b e (in_statement xs k) =
     cond_follows (same_bracket b brace) (close_body (body_of xs (last e)) k) none _
     (subst (λ d. Follows d (close_body (body_of xs (last e)) k))
-    (ap (λ d. new_at_end k && (d && fine_body_stack k)) (statements-bound xs (body_scope k) (last e))
+    (ap (λ d. new_at_end k && (d && fine_body_stack k)) (statements_bound xs (body_scope k) (last e))
     ∙ with_last_statement (new_at_end k) (fine_statements (body_scope k) xs)
     (bound_expr (after_statements xs (body_scope k)) e) (fine_body_stack k))
-    (close-body-fine (body_of xs (last e)) k))
+    (close_body_fine (body_of xs (last e)) k))
     tt
-close-expr-fine b e (in_binding p xs k) = tt
+close_expr_fine b e (in_binding p xs k) = tt
 
 pub next_expr_fine : (e : Expr) (k : ExprStack) → Follows (fine_in e k) (next_expr e k)
 next_expr_fine e (operand m o a k) = tt
@@ -173,7 +173,7 @@ open_block_fine e (in_binding p xs k) = tt
 pub close_empty_fine : (b : Bracket) (k : ExprStack) → Follows (fine_exprs k) (close_empty b k)
 close_empty_fine b (operand m o a k) = tt
 close_empty_fine b (in_parens k) = tt
-close_empty_fine b (in_list c o none_yet k) = close-list-fine b c o no_e k
+close_empty_fine b (in_list c o none_yet k) = close_list_fine b c o no_e k
 close_empty_fine b (in_list c o (snoc xs e) k) = tt
 close_empty_fine b (in_case k) = tt
 close_empty_fine b (in_until cs k) = tt
@@ -207,42 +207,42 @@ after-reduce t f h e k =
     subst (λ d. Follows d (f (reduce t e k).expr (reduce t e k).stack)) (reduce_fine t e k)
     (h (reduce t e k).expr (reduce t e k).stack)
 
-pub after-expr-fine :
+pub after_expr_fine :
     (e : Expr) (k : ExprStack) (c : Class) → Follows (passes_behind k c && fine_in e k) (after_expr e k c)
-after-expr-fine e k (c_number n) = tt
-after-expr-fine e k (c_name x) = tt
-after-expr-fine e k (c_operator t m o) = after-reduce t (shift m o) (shift_fine m o) e k
-after-expr-fine e k (c_open paren) = tt
-after-expr-fine e k (c_open brace) = after-reduce 0 open_block open_block_fine e k
-after-expr-fine e k (c_close b) =
+after_expr_fine e k (c_number n) = tt
+after_expr_fine e k (c_name x) = tt
+after_expr_fine e k (c_operator t m o) = after-reduce t (shift m o) (shift_fine m o) e k
+after_expr_fine e k (c_open paren) = tt
+after_expr_fine e k (c_open brace) = after-reduce 0 open_block open_block_fine e k
+after_expr_fine e k (c_close b) =
     subst (λ d. Follows d (close_expr b (reduce 0 e k).expr (reduce 0 e k).stack))
     (ap (λ d. d && fine_in (reduce 0 e k).expr (reduce 0 e k).stack) (reduce-closes 0 e k)
     ∙ ap (λ d. new_if_closed k && d) (reduce_fine 0 e k))
-    (close-expr-fine b (reduce 0 e k).expr (reduce 0 e k).stack)
-after-expr-fine e k (c_builtin f) = tt
-after-expr-fine e k (c_start s) = tt
-after-expr-fine e k (c_separate s_comma) = after-reduce 0 next_expr next_expr_fine e k
-after-expr-fine e k (c_separate s_semicolon) = after-reduce 0 next_statement next_statement_fine e k
-after-expr-fine e k (c_separate s_equals) = tt
-after-expr-fine e k (c_separate s_arrow) = tt
-after-expr-fine e k c_other = tt
+    (close_expr_fine b (reduce 0 e k).expr (reduce 0 e k).stack)
+after_expr_fine e k (c_builtin f) = tt
+after_expr_fine e k (c_start s) = tt
+after_expr_fine e k (c_separate s_comma) = after-reduce 0 next_expr next_expr_fine e k
+after_expr_fine e k (c_separate s_semicolon) = after-reduce 0 next_statement next_statement_fine e k
+after_expr_fine e k (c_separate s_equals) = tt
+after_expr_fine e k (c_separate s_arrow) = tt
+after_expr_fine e k c_other = tt
 
-pub reduce-pattern-fine :
+pub reduce_pattern_fine :
     (f : Pattern → PatternStack → Option State) → ((p : Pattern) (k : PatternStack) → Follows (fine_patterns k) (f p k)) →
     (p : Pattern) (k : PatternStack) → Follows (fine_patterns k) (reduce_pattern p k f)
-reduce-pattern-fine f h p (in_cons a k) = reduce-pattern-fine f h _ k
-reduce-pattern-fine f h p (in_group k) = h p (in_group k)
-reduce-pattern-fine f h p (in_tuple xs k) = h p (in_tuple xs k)
-reduce-pattern-fine f h p (before_equals xs k) = h p (before_equals xs k)
-reduce-pattern-fine f h p (before_arrow o xs k) = h p (before_arrow o xs k)
+reduce_pattern_fine f h p (in_cons a k) = reduce_pattern_fine f h _ k
+reduce_pattern_fine f h p (in_group k) = h p (in_group k)
+reduce_pattern_fine f h p (in_tuple xs k) = h p (in_tuple xs k)
+reduce_pattern_fine f h p (before_equals xs k) = h p (before_equals xs k)
+reduce_pattern_fine f h p (before_arrow o xs k) = h p (before_arrow o xs k)
 
-pub close-pattern-fine :
+pub close_pattern_fine :
     (b : Bracket) (p : Pattern) (k : PatternStack) → Follows (fine_patterns k) (close_pattern b p k)
-close-pattern-fine b p (in_cons a k) = tt
-close-pattern-fine b p (in_group k) = when-follows (same_bracket b paren) _ _ refl
-close-pattern-fine b p (in_tuple xs k) = when-follows (same_bracket b brace) _ _ refl
-close-pattern-fine b p (before_equals xs k) = tt
-close-pattern-fine b p (before_arrow h xs k) = tt
+close_pattern_fine b p (in_cons a k) = tt
+close_pattern_fine b p (in_group k) = when-follows (same_bracket b paren) _ _ refl
+close_pattern_fine b p (in_tuple xs k) = when-follows (same_bracket b brace) _ _ refl
+close_pattern_fine b p (before_equals xs k) = tt
+close_pattern_fine b p (before_arrow h xs k) = tt
 
 pub next_pattern_fine : (p : Pattern) (k : PatternStack) → Follows (fine_patterns k) (next_pattern p k)
 next_pattern_fine p (in_cons a k) = tt
@@ -265,11 +265,11 @@ begin_arm_fine p (in_tuple xs k) = tt
 begin_arm_fine p (before_equals xs k) = tt
 begin_arm_fine p (before_arrow h xs k) = refl
 
-pub close-clauses-fine :
+pub close_clauses_fine :
     (h : Owner) (cs : Clauses) (k : ExprStack) →
     fine_state (close_clauses h cs k) ≡ ((fine_owner (scope k) h && bound_clauses (scope k) cs) && fine_exprs k)
-close-clauses-fine (of_case e) cs k = refl
-close-clauses-fine of_receive cs k = refl
+close_clauses_fine (of_case e) cs k = refl
+close_clauses_fine of_receive cs k = refl
 
 pub close_without_fine : (b : Bracket) (k : PatternStack) → Follows (fine_patterns k) (close_without b k)
 close_without_fine b (in_cons a k) = tt
@@ -279,8 +279,8 @@ close_without_fine b (in_tuple (snoc xs p) k) = tt
 close_without_fine b (before_equals xs k) = tt
 close_without_fine b (before_arrow h xs k) =
     when-follows (same_bracket b brace) (close_clauses h (clauses_of xs no_c) k) _
-    (close-clauses-fine h (clauses_of xs no_c) k
-    ∙ ap (λ d. (fine_owner (scope k) h && d) && fine_exprs k) (arms-bound xs (scope k) no_c)
+    (close_clauses_fine h (clauses_of xs no_c) k
+    ∙ ap (λ d. (fine_owner (scope k) h && d) && fine_exprs k) (arms_bound xs (scope k) no_c)
     ∙ with_arms (fine_owner (scope k) h) (fine_arms (scope k) xs) (fine_exprs k))
 
 -- no token in a pattern is refused
@@ -302,17 +302,17 @@ start_pattern_fine k (c_start s_spawn) = tt
 start_pattern_fine k (c_separate s) = tt
 start_pattern_fine k c_other = tt
 
-pub after-pattern-fine :
+pub after_pattern_fine :
     (p : Pattern) (k : PatternStack) (c : Class) → Follows (fine_patterns k) (after_pattern p k c)
-after-pattern-fine p k (c_number n) = tt
-after-pattern-fine p k (c_name x) = tt
-after-pattern-fine p k (c_operator t m o) = when-follows (is_pair o) _ _ refl
-after-pattern-fine p k (c_open b) = tt
-after-pattern-fine p k (c_close b) = reduce-pattern-fine (close_pattern b) (close-pattern-fine b) p k
-after-pattern-fine p k (c_builtin f) = tt
-after-pattern-fine p k (c_start s) = tt
-after-pattern-fine p k (c_separate s_comma) = reduce-pattern-fine next_pattern next_pattern_fine p k
-after-pattern-fine p k (c_separate s_semicolon) = tt
-after-pattern-fine p k (c_separate s_equals) = reduce-pattern-fine bind_pattern bind_pattern_fine p k
-after-pattern-fine p k (c_separate s_arrow) = reduce-pattern-fine begin_arm begin_arm_fine p k
-after-pattern-fine p k c_other = tt
+after_pattern_fine p k (c_number n) = tt
+after_pattern_fine p k (c_name x) = tt
+after_pattern_fine p k (c_operator t m o) = when-follows (is_pair o) _ _ refl
+after_pattern_fine p k (c_open b) = tt
+after_pattern_fine p k (c_close b) = reduce_pattern_fine (close_pattern b) (close_pattern_fine b) p k
+after_pattern_fine p k (c_builtin f) = tt
+after_pattern_fine p k (c_start s) = tt
+after_pattern_fine p k (c_separate s_comma) = reduce_pattern_fine next_pattern next_pattern_fine p k
+after_pattern_fine p k (c_separate s_semicolon) = tt
+after_pattern_fine p k (c_separate s_equals) = reduce_pattern_fine bind_pattern bind_pattern_fine p k
+after_pattern_fine p k (c_separate s_arrow) = reduce_pattern_fine begin_arm begin_arm_fine p k
+after_pattern_fine p k c_other = tt

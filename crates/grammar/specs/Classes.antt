@@ -48,7 +48,7 @@ pub data Separator : Type 0 where
 pub data Class : Type 0 where
   c_number : ℕ → Class
   c_name : Name → Class
-  -- c-operator t m o: what waits and binds at least as tightly as t is applied before it; itself it binds as m
+  -- c_operator t m o: what waits and binds at least as tightly as t is applied before it; itself it binds as m
   c_operator : ℕ → ℕ → Operation → Class
   c_open : Bracket → Class
   c_close : Bracket → Class

@@ -93,9 +93,9 @@ module _ (x : World) (s : System) (me : Worker) {code : List ℕ} {m : Store} {p
   clauses_at q = subst (λ z. CodeCs x.names (awaits ci).scope x.code z cs)
       (sym (q ∙ ap (λ z. left_of z p) (sym e))) (awaits ci).clauses
 
-  pub take-full : {l : Slot} → l ≡ left_of code p → TakeLacks code m l b a.env →
+  pub take_full : {l : Slot} → l ≡ left_of code p → TakeLacks code m l b a.env →
       length m.words < 6 * (m.used + (new_cells h + most_names cs))
-  take-full {l} q f = (subst (λ z. TakeLacks z m l b a.env) (sym e) f).short (clauses_at q) (awaits ci).site.env
+  take_full {l} q f = (subst (λ z. TakeLacks z m l b a.env) (sym e) f).short (clauses_at q) (awaits ci).site.env
       h ps
 
   pub take_found : {m' : Store} {l : Slot} {r : Received} {o : Taken} → l ≡ left_of code p → o ≡ Found r →
@@ -122,10 +122,10 @@ module _ (x : World) (s : System) (me : Worker) {code : List ℕ} {m : Store} {p
         t.count,
       )
 
-  pub take-waits : {m' : Store} {l : Slot} {b' : Mailbox} {o : Taken} {due : Bool} → l ≡ left_of code p →
+  pub take_waits : {m' : Store} {l : Slot} {b' : Mailbox} {o : Taken} {due : Bool} → l ≡ left_of code p →
       due ≡ due_at s u → due ≡ false → o ≡ Nothing b' → Takes code m m' l b a.env o →
       WaitedIs x s me cs u w m' (Waits b') × (m'.used ≤ m.used + (new_cells h + most_names cs))
-  take-waits {m'} {l} {b'} q d n is f =
+  take_waits {m'} {l} {b'} q d n is f =
       let t = (subst (λ z. Takes z m m' l b a.env (Nothing b')) (sym e)
       (subst (λ z. Takes code m m' l b a.env z) is f)).to (clauses_at q) (awaits ci).site.env h ps in (
         record {
@@ -137,11 +137,11 @@ module _ (x : World) (s : System) (me : Worker) {code : List ℕ} {m : Store} {p
         omega (arith, t.count),
       )
 
-  pub take-late : {m' : Store} {l i j : Slot} {b' : Mailbox} {o : Taken} {due : Bool} → l ≡ left_of code p →
+  pub take_late : {m' : Store} {l i j : Slot} {b' : Mailbox} {o : Taken} {due : Bool} → l ≡ left_of code p →
       i ≡ right_of code p → j ≡ right_of code i → due ≡ due_at s u → due ≡ true → Kept m m' → o ≡ Nothing b' →
       Takes code m m' l b a.env o → WaitedIs x s me cs u w m' (Late (Enter j a) b')
       × (m'.used ≤ m.used + (new_cells h + most_names cs))
-  take-late {m'} {l} {i} {j} {b'} q ri rj d n g is f =
+  take_late {m'} {l} {i} {j} {b'} q ri rj d n g is f =
       let t = (subst (λ z. Takes z m m' l b a.env (Nothing b')) (sym e)
       (subst (λ z. Takes code m m' l b a.env z) is f)).to (clauses_at q) (awaits ci).site.env h ps in
       let re : j ≡ right_of x.code.words (right_of x.code.words p) =

@@ -30,20 +30,20 @@ rebound bs h = record { at_work = h.at_work; there = h.there; home = h.home; ver
 module _ (x : World) (s : System) (me : Worker) {code : List ℕ} {m : Store} {sc : List Name} {v : Slot} {a : Site}
     {w : Scope} (u : Value) (e : x.code.words ≡ code) (hv : Holds x.names m v u) (si : SiteIs x m sc a w) where
   -- the pattern of a statement
-  pattern-in : {p : Slot} {q : Pattern} {d : Expr} {b : Body} {l : Slot} →
+  pattern_in : {p : Slot} {q : Pattern} {d : Expr} {b : Body} {l : Slot} →
       CodeB x.names sc x.code p (bind q d b) → l ≡ left_of code p →
       CodeP x.names (store_of x.code.words x.code.used) l q
-  pattern-in {p} {q} c h = subst (λ z. CodeP x.names x.code z q) (sym (h ∙ ap (λ z. left_of z p) (sym e)))
+  pattern_in {p} {q} c h = subst (λ z. CodeP x.names x.code z q) (sym (h ∙ ap (λ z. left_of z p) (sym e)))
       (record { stands = node_left c.stands; fine = c.fine.0 })
 
-  pub bind-some : {m' : Store} {k : List Frame} {p t : Slot} {q : Pattern} {d : Expr} {b : Body} {l n r env : Slot}
+  pub bind_some : {m' : Store} {k : List Frame} {p t : Slot} {q : Pattern} {d : Expr} {b : Body} {l n r env : Slot}
       {o : Option Slot} → CodeB x.names sc x.code p (bind q d b) → FramesAt x m t k → l ≡ left_of code p →
       n ≡ right_of code p → r ≡ right_of code n → Kept m m' → o ≡ Some env → Matches code m m' l v a.env o →
       Reached x s me m m' (names q) (GoesOn (Enter r (record { env = env; section = a.section })) t)
       (resume x.program s me u (bind_frame q b w ∷ k))
-  bind-some {m'} {k} {p} {t} {q} {d} {b} {l} {n} {r} {env} c fs h i j g is f =
+  bind_some {m'} {k} {p} {t} {q} {d} {b} {l} {n} {r} {env} c fs h i j g is f =
       let o = (subst (λ z. Matches z m m' l v a.env (Some env)) (sym e)
-      (subst (λ z. Matches code m m' l v a.env z) is f)).to (pattern-in c h) hv si.env in
+      (subst (λ z. Matches code m m' l v a.env z) is f)).to (pattern_in c h) hv si.env in
       let re : r ≡ right_of x.code.words (right_of x.code.words p) =
       j ∙ (ap (right_of code) i ∙ ap (λ z. right_of z (right_of z p)) (sym e)) in
       let body : CodeB x.names (bound_by q sc) x.code r b =
@@ -58,14 +58,14 @@ module _ (x : World) (s : System) (me : Worker) {code : List ℕ} {m : Store} {s
             omega (arith, o.count);
       })
 
-  pub bind-none : {m' : Store} {k : List Frame} {p t : Slot} {q : Pattern} {d : Expr} {b : Body} {l : Slot}
+  pub bind_none : {m' : Store} {k : List Frame} {p t : Slot} {q : Pattern} {d : Expr} {b : Body} {l : Slot}
       {o : Option Slot} → CodeB x.names sc x.code p (bind q d b) → FramesAt x m t k → l ≡ left_of code p →
       Kept m m' → o ≡ None → Matches code m m' l v a.env o →
       Reached x s me m m' (names q) (GoesOn (Fail (record { kind = 1; low = 1; high = 0 })) t)
       (resume x.program s me u (bind_frame q b w ∷ k))
-  bind-none {m'} {k} {p} {t} {q} {d} {b} {l} c fs h g is f =
+  bind_none {m'} {k} {p} {t} {q} {d} {b} {l} c fs h g is f =
       let o = (subst (λ z. Matches z m m' l v a.env None) (sym e)
-      (subst (λ z. Matches code m m' l v a.env z) is f)).to (pattern-in c h) hv si.env in
+      (subst (λ z. Matches code m m' l v a.env z) is f)).to (pattern_in c h) hv si.env in
       subst (λ z. Reached x s me m m' (names q) (GoesOn (Fail (record { kind = 1; low = 1; high = 0 })) t)
       (opt z (error k s a_match) (λ bs. goes_on (enter b (rebind w bs)) k s))) (sym o)
       (record {
@@ -75,28 +75,28 @@ module _ (x : World) (s : System) (me : Worker) {code : List ℕ} {m : Store} {s
             omega (arith, f.spared is);
       })
 
-  pub bind-full : {m' : Store} {p : Slot} {q : Pattern} {d : Expr} {b : Body} {l : Slot} →
+  pub bind_full : {m' : Store} {p : Slot} {q : Pattern} {d : Expr} {b : Body} {l : Slot} →
       CodeB x.names sc x.code p (bind q d b) → l ≡ left_of code p → MatchLacks code m m' l v a.env →
       length m.words < 6 * (m.used + names q)
-  bind-full {m' = m'} {l = l} c h f =
-      (subst (λ z. MatchLacks z m m' l v a.env) (sym e) f).short (pattern-in c h) hv si.env
+  bind_full {m' = m'} {l = l} c h f =
+      (subst (λ z. MatchLacks z m m' l v a.env) (sym e) f).short (pattern_in c h) hv si.env
 
   -- the clauses of a case
-  clauses-in : {p : Slot} {d : Expr} {cs : Clauses} {l : Slot} → CodeE x.names sc x.code p (case d cs) →
+  clauses_in : {p : Slot} {d : Expr} {cs : Clauses} {l : Slot} → CodeE x.names sc x.code p (case d cs) →
       l ≡ right_of code p → CodeCs x.names sc (store_of x.code.words x.code.used) l cs
-  clauses-in {p} {cs = cs} c h = subst
+  clauses_in {p} {cs = cs} c h = subst
       (λ z. CodeCs x.names sc x.code z cs) (sym (h ∙ ap (λ z. right_of z p) (sym e)))
       (record { stands = node_right c.stands; fine = c.fine.1 })
 
-  pub case-some : {m' : Store} {k : List Frame} {p t : Slot} {d : Expr} {cs : Clauses} {l : Slot} {r : Chosen}
+  pub case_some : {m' : Store} {k : List Frame} {p t : Slot} {d : Expr} {cs : Clauses} {l : Slot} {r : Chosen}
       {o : Option Chosen} → CodeE x.names sc x.code p (case d cs) → FramesAt x m t k → l ≡ right_of code p →
       Kept m m' → o ≡ Some r → Chooses code m m' l v a.env o →
       Reached x s me m m' (most_names cs)
       (GoesOn (Enter r.body (record { env = r.env; section = a.section })) t)
       (resume x.program s me u (case_frame cs w ∷ k))
-  case-some {m'} {k} {p} {t} {d} {cs} {l} {r} c fs h g is f =
+  case_some {m'} {k} {p} {t} {d} {cs} {l} {r} c fs h g is f =
       let o = (subst (λ z. Chooses z m m' l v a.env (Some r)) (sym e)
-      (subst (λ z. Chooses code m m' l v a.env z) is f)).to (clauses-in c h) hv si.env in
+      (subst (λ z. Chooses code m m' l v a.env z) is f)).to (clauses_in c h) hv si.env in
       subst (λ z. Reached x s me m m' (most_names cs)
       (GoesOn (Enter r.body (record { env = r.env; section = a.section })) t)
       (opt z (error k s a_clause) (λ q. goes_on (enter q.body (rebind w q.vars)) k s))) (sym o.is)
@@ -106,14 +106,14 @@ module _ (x : World) (s : System) (me : Worker) {code : List ℕ} {m : Store} {s
         most = o.count;
       })
 
-  pub case-none : {m' : Store} {k : List Frame} {p t : Slot} {d : Expr} {cs : Clauses} {l : Slot}
+  pub case_none : {m' : Store} {k : List Frame} {p t : Slot} {d : Expr} {cs : Clauses} {l : Slot}
       {o : Option Chosen} → CodeE x.names sc x.code p (case d cs) → FramesAt x m t k → l ≡ right_of code p →
       Kept m m' → o ≡ None → Chooses code m m' l v a.env o →
       Reached x s me m m' (most_names cs) (GoesOn (Fail (record { kind = 1; low = 2; high = 0 })) t)
       (resume x.program s me u (case_frame cs w ∷ k))
-  case-none {m'} {k} {p} {t} {d} {cs} {l} c fs h g is f =
+  case_none {m'} {k} {p} {t} {d} {cs} {l} c fs h g is f =
       let o = (subst (λ z. Chooses z m m' l v a.env None) (sym e)
-      (subst (λ z. Chooses code m m' l v a.env z) is f)).to (clauses-in c h) hv si.env in
+      (subst (λ z. Chooses code m m' l v a.env z) is f)).to (clauses_in c h) hv si.env in
       subst (λ z. Reached x s me m m' (most_names cs) (GoesOn (Fail (record { kind = 1; low = 2; high = 0 })) t)
       (opt z (error k s a_clause) (λ q. goes_on (enter q.body (rebind w q.vars)) k s))) (sym o)
       (record {
@@ -127,4 +127,4 @@ module _ (x : World) (s : System) (me : Worker) {code : List ℕ} {m : Store} {s
       CodeE x.names sc x.code p (case d cs) → l ≡ right_of code p → ChoiceLacks code m m' l v a.env →
       length m.words < 6 * (m.used + most_names cs)
   case_full {m' = m'} {l = l} c h f =
-      (subst (λ z. ChoiceLacks z m m' l v a.env) (sym e) f).short (clauses-in c h) hv si.env
+      (subst (λ z. ChoiceLacks z m m' l v a.env) (sym e) f).short (clauses_in c h) hv si.env

@@ -119,13 +119,13 @@ module _ (x : World) (s : System) (me : Worker) {m : Store} {k : List Frame} {sc
   operands_end vs (and_e e es) r ru p nk c ch h = absurd (nk (node_is c.stands))
 
   -- one more operand
-  pub operands-more : {code functions : List ℕ} {m₁ m₂ : Store} {q st l v t : Slot} {o : Done} (vs : List Value)
+  pub operands_more : {code functions : List ℕ} {m₁ m₂ : Store} {q st l v t : Slot} {o : Done} (vs : List Value)
       (es : Exprs) → Runs x code functions → q.kind ≡ 18 →
       CodeEs x.names sc x.code q o (length vs + count es) es → Chain x.names m st (reverse vs) →
       l ≡ left_of code q → Put m m₁ 37 a.env st v → Kept m₁ m₂ → Framing m₁ m₂ 32 q.low a.section v f t →
       Reached x s me m m₂ (3 + length vs) (GoesOn (Eval l a) t) (operands x.program k s me.pid w o vs es)
-  operands-more {o = o} vs no_e ru kq c ch e p g h = absurd (not_operand x.names o (length vs + 0) c.stands kq)
-  operands-more {code} {functions} {m₁} {m₂} {q} {st} {l} {v} {t} {o} vs (and_e d es) ru kq c ch e p g h =
+  operands_more {o = o} vs no_e ru kq c ch e p g h = absurd (not_operand x.names o (length vs + 0) c.stands kq)
+  operands_more {code} {functions} {m₁} {m₂} {q} {st} {l} {v} {t} {o} vs (and_e d es) ru kq c ch e p g h =
       let n : length vs + count (and_e d es) ≡ length vs + suc (count es) = omega arith in
       let c' : CodeEs x.names sc x.code q o (length vs + suc (count es)) (and_e d es) =
       subst (λ z. CodeEs x.names sc x.code q o z (and_e d es)) n c in
@@ -153,31 +153,31 @@ module _ (x : World) (s : System) (me : Worker) {m : Store} {k : List Frame} {sc
   constantly atom_is h = record { outcome = goes_on_is (give_is _ h.holds) fs; most = omega arith }
   constantly nil_is h = record { outcome = goes_on_is (give_is _ h.holds) fs; most = omega arith }
 
-  pub evaluate-constant : {p : Slot} {e : Expr} → InstructionIs x.names sc x.code p Constant e →
+  pub evaluate_constant : {p : Slot} {e : Expr} → InstructionIs x.names sc x.code p Constant e →
       Reached x s me m m 3 (GoesOn (Give p) f) (evaluate x.program k s me.pid e w)
-  evaluate-constant (constant_is v i h) = constantly i h
+  evaluate_constant (constant_is v i h) = constantly i h
 
-  pub evaluate-variable : {p r : Slot} {i : ℕ} {e : Expr} → InstructionIs x.names sc x.code p (Variable i) e →
+  pub evaluate_variable : {p r : Slot} {i : ℕ} {e : Expr} → InstructionIs x.names sc x.code p (Variable i) e →
       LooksUp m.words a.env i r →
       Reached x s me m m 3 (GoesOn (Give r) f) (evaluate x.program k s me.pid e w)
-  evaluate-variable {r = r} (variable_is {y = y} q kn) l =
+  evaluate_variable {r = r} (variable_is {y = y} q kn) l =
       let o = l.is y si.env kn q in
       subst (λ z. Reached x s me m m 3 (GoesOn (Give r) f) (opt z stuck (gives k s))) (sym o.1)
       (record { outcome = goes_on_is (give_is o.0 o.2) fs; most = omega arith })
 
-  pub evaluate-apply : {code functions scratch : List ℕ} {m' : Store} {pid : ℕ} {p : Slot} {e : Expr}
+  pub evaluate_apply : {code functions scratch : List ℕ} {m' : Store} {pid : ℕ} {p : Slot} {e : Expr}
       (r : Result Outcome Refusal) → InstructionIs x.names sc x.code p Apply e → Runs x code functions →
       me.pid ≡ pid → OperandsSim code functions m m' scratch pid p (record { kind = 2; low = 0; high = 0 }) a f r →
       Answer x s me m m' scratch 3 [] r (evaluate x.program k s me.pid e w)
-  evaluate-apply {p = p} r (apply_is {o = o} {es = es} c) ru q h =
+  evaluate_apply {p = p} r (apply_is {o = o} {es = es} c) ru q h =
       let z : 0 + count es ≡ count es = omega arith in
       h.to x s me k sc o [] es w ru q (subst (λ n. CodeEs x.names sc x.code p o n es) (sym z) c)
       (record { fine = tt; stands = leaf_stands 2 0 0 (omega arith) }) si fs
 
-  pub evaluate-case : {m' : Store} {p q t : Slot} {e : Expr} → InstructionIs x.names sc x.code p (Case q) e →
+  pub evaluate_case : {m' : Store} {p q t : Slot} {e : Expr} → InstructionIs x.names sc x.code p (Case q) e →
       Kept m m' → Framing m m' 34 p.low a.section a.env f t →
       Reached x s me m m' 3 (GoesOn (Eval q a) t) (evaluate x.program k s me.pid e w)
-  evaluate-case (case_is ce c) g h = record {
+  evaluate_case (case_is ce c) g h = record {
     outcome = goes_on_is (eval_is sc ce (site_kept g si))
         (record {
           tree = _;
@@ -189,11 +189,11 @@ module _ (x : World) (s : System) (me : Worker) {m : Store} {k : List Frame} {sc
     most = omega (arith, h.count);
   }
 
-  pub evaluate-until : {m' : Store} {p q t : Slot} {e : Expr} →
+  pub evaluate_until : {m' : Store} {p q t : Slot} {e : Expr} →
       InstructionIs x.names sc x.code p (ReceiveUntil q) e → Kept m m' →
       Framing m m' 35 p.low a.section a.env f t →
       Reached x s me m m' 3 (GoesOn (Eval q a) t) (evaluate x.program k s me.pid e w)
-  evaluate-until (until_is ce c) g h = record {
+  evaluate_until (until_is ce c) g h = record {
     outcome = goes_on_is (eval_is sc ce (site_kept g si))
         (record {
           tree = _;
@@ -205,14 +205,14 @@ module _ (x : World) (s : System) (me : Worker) {m : Store} {k : List Frame} {sc
     most = omega (arith, h.count);
   }
 
-  pub evaluate-receive : {p : Slot} {e : Expr} → InstructionIs x.names sc x.code p Receive e →
+  pub evaluate_receive : {p : Slot} {e : Expr} → InstructionIs x.names sc x.code p Receive e →
       Reached x s me m m 3 (GoesOn (Wait p a) f) (evaluate x.program k s me.pid e w)
-  evaluate-receive (receive_is c) = record { outcome = goes_on_is (wait_is sc c si) fs; most = omega arith }
+  evaluate_receive (receive_is c) = record { outcome = goes_on_is (wait_is sc c si) fs; most = omega arith }
 
-  pub evaluate-catch : {m' : Store} {p q t : Slot} {e : Expr} → InstructionIs x.names sc x.code p (Catch q) e →
+  pub evaluate_catch : {m' : Store} {p q t : Slot} {e : Expr} → InstructionIs x.names sc x.code p (Catch q) e →
       Put m m' 36 (record { kind = 2; low = 0; high = 0 }) f t →
       Reached x s me m m' 3 (GoesOn (Enter q a) t) (evaluate x.program k s me.pid e w)
-  evaluate-catch (catch_is c) h = record {
+  evaluate_catch (catch_is c) h = record {
     outcome = goes_on_is (enter_is sc c (site_kept h.kept si))
         (record {
           tree = _;

@@ -55,27 +55,27 @@ use Rattle.machine.proofs.Stepping.{atom_holds}
 
 -- a fixed error
 module _ (x : World) (m : Store) where
-  pub fails-big : (f : List Frame → System → Means) → ((k : List Frame) (s : System) → f k s ≡ error k s a_big) →
+  pub fails_big : (f : List Frame → System → Means) → ((k : List Frame) (s : System) → f k s ≡ error k s a_big) →
       Leads x m (Fail (record { kind = 1; low = 4; high = 0 })) f
-  fails-big f e = record {
+  fails_big f e = record {
     control = fail (v_atom a_big);
     is = e;
     stands =
         fail_is (v_atom a_big) (atom_holds x a_big 4 x.atoms.big_at (omega arith));
   }
 
-  pub fails-zero : (f : List Frame → System → Means) → ((k : List Frame) (s : System) → f k s ≡ error k s a_zero) →
+  pub fails_zero : (f : List Frame → System → Means) → ((k : List Frame) (s : System) → f k s ≡ error k s a_zero) →
       Leads x m (Fail (record { kind = 1; low = 3; high = 0 })) f
-  fails-zero f e = record {
+  fails_zero f e = record {
     control = fail (v_atom a_zero);
     is = e;
     stands =
         fail_is (v_atom a_zero) (atom_holds x a_zero 3 x.atoms.zero_at (omega arith));
   }
 
-  pub fails-type : (f : List Frame → System → Means) → ((k : List Frame) (s : System) → f k s ≡ error k s a_type) →
+  pub fails_type : (f : List Frame → System → Means) → ((k : List Frame) (s : System) → f k s ≡ error k s a_type) →
       Leads x m (Fail (record { kind = 1; low = 0; high = 0 })) f
-  fails-type f e = record {
+  fails_type f e = record {
     control = fail (v_atom a_type);
     is = e;
     stands =
@@ -88,53 +88,53 @@ module _ (x : World) (m : Store) where
   gives-number {n} {z} f h q st e =
       record { control = give (v_int z); is = e; stands = give_is (v_int z) (st.value {m = m} h (ap v_int (sym q))) }
 
-  pub number-leads : {n : ℤ} (z : ℤ) {s : Slot} → Exact (Some n) z → Stands (Number n) s → Leads x m (Give s)
+  pub number_leads : {n : ℤ} (z : ℤ) {s : Slot} → Exact (Some n) z → Stands (Number n) s → Leads x m (Give s)
       (λ k t. number k t z)
-  number-leads z h st = gives-number (λ k t. number k t z) h.0 h.1 st
+  number_leads z h st = gives-number (λ k t. number k t z) h.0 h.1 st
       (λ k t. ap (λ b. cond b (gives k t (v_int z)) (error k t a_big)) h.0)
 
-  pub number-big : (z : ℤ) → Exact None z → Leads x m (Fail (record { kind = 1; low = 4; high = 0 }))
+  pub number_big : (z : ℤ) → Exact None z → Leads x m (Fail (record { kind = 1; low = 4; high = 0 }))
       (λ k t. number k t z)
-  number-big z h = fails-big (λ k t. number k t z) (λ k t. ap (λ b. cond b (gives k t (v_int z)) (error k t a_big)) h)
+  number_big z h = fails_big (λ k t. number k t z) (λ k t. ap (λ b. cond b (gives k t (v_int z)) (error k t a_big)) h)
 
-  divided-by : (b z : ℤ) → is_zero b ≡ false → (k : List Frame) (t : System) → divided k t b z ≡ number k t z
-  divided-by b z h k t = ap (λ q. cond q (error k t a_zero) (number k t z)) h
+  divided_by : (b z : ℤ) → is_zero b ≡ false → (k : List Frame) (t : System) → divided k t b z ≡ number k t z
+  divided_by b z h k t = ap (λ q. cond q (error k t a_zero) (number k t z)) h
 
-  pub quotient-leads : {n : ℤ} (b z : ℤ) {s : Slot} → Divided (Result n) b z → Stands (Number n) s →
+  pub quotient_leads : {n : ℤ} (b z : ℤ) {s : Slot} → Divided (Result n) b z → Stands (Number n) s →
       Leads x m (Give s) (λ k t. divided k t b z)
-  quotient-leads b z h st = gives-number (λ k t. divided k t b z) h.1 h.2 st
-      (λ k t. divided-by b z h.0 k t ∙ ap (λ q. cond q (gives k t (v_int z)) (error k t a_big)) h.1)
+  quotient_leads b z h st = gives-number (λ k t. divided k t b z) h.1 h.2 st
+      (λ k t. divided_by b z h.0 k t ∙ ap (λ q. cond q (gives k t (v_int z)) (error k t a_big)) h.1)
 
-  pub quotient-big : (b z : ℤ) → Divided TooBig b z → Leads x m (Fail (record { kind = 1; low = 4; high = 0 }))
+  pub quotient_big : (b z : ℤ) → Divided TooBig b z → Leads x m (Fail (record { kind = 1; low = 4; high = 0 }))
       (λ k t. divided k t b z)
-  quotient-big b z h = fails-big (λ k t. divided k t b z)
-      (λ k t. divided-by b z h.0 k t ∙ ap (λ q. cond q (gives k t (v_int z)) (error k t a_big)) h.1)
+  quotient_big b z h = fails_big (λ k t. divided k t b z)
+      (λ k t. divided_by b z h.0 k t ∙ ap (λ q. cond q (gives k t (v_int z)) (error k t a_big)) h.1)
 
-  pub quotient-zero : (b z : ℤ) → Divided ByZero b z → Leads x m (Fail (record { kind = 1; low = 3; high = 0 }))
+  pub quotient_zero : (b z : ℤ) → Divided ByZero b z → Leads x m (Fail (record { kind = 1; low = 3; high = 0 }))
       (λ k t. divided k t b z)
-  quotient-zero b z h = fails-zero (λ k t. divided k t b z)
+  quotient_zero b z h = fails_zero (λ k t. divided k t b z)
       (λ k t. ap (λ q. cond q (error k t a_zero) (number k t z)) h)
 
-  pub truth-true : {b : Bool} → b ≡ true → Leads x m (Give (record { kind = 1; low = 13; high = 0 }))
+  pub truth_true : {b : Bool} → b ≡ true → Leads x m (Give (record { kind = 1; low = 13; high = 0 }))
       (λ k t. gives k t (truth b))
-  truth-true {b} h = record {
+  truth_true {b} h = record {
     control = give (v_atom a_true);
     is = λ k t. ap (λ q. gives k t (truth q)) h;
     stands =
         give_is (v_atom a_true) (atom_holds x a_true 13 x.atoms.true_at (omega arith));
   }
 
-  pub truth-false : {b : Bool} → b ≡ false → Leads x m (Give (record { kind = 1; low = 14; high = 0 }))
+  pub truth_false : {b : Bool} → b ≡ false → Leads x m (Give (record { kind = 1; low = 14; high = 0 }))
       (λ k t. gives k t (truth b))
-  truth-false {b} h = record {
+  truth_false {b} h = record {
     control = give (v_atom a_false);
     is = λ k t. ap (λ q. gives k t (truth q)) h;
     stands =
         give_is (v_atom a_false) (atom_holds x a_false 14 x.atoms.false_at (omega arith));
   }
 
-  pub truth-as : {b : Bool} {r : Control} (a : Bool) → Truly b r → b ≡ a → Leads x m r (λ k t. gives k t (truth a))
-  truth-as {b} {r} a t e = subst (λ (q : Bool). Leads x m r (λ k t. gives k t (truth q))) e (t.to x m)
+  pub truth_as : {b : Bool} {r : Control} (a : Bool) → Truly b r → b ≡ a → Leads x m r (λ k t. gives k t (truth a))
+  truth_as {b} {r} a t e = subst (λ (q : Bool). Leads x m r (λ k t. gives k t (truth q))) e (t.to x m)
 
 -- an operator on numbers, of values that are not both numbers
 pub not_numbers : (u v : Value) (f : List Frame → System → ℤ → ℤ → Means) → Apart u v →
@@ -165,25 +165,25 @@ pub numbers_some : {o : Option ℤ} {n : ℤ} {s : Slot} → o ≡ Some n → St
     Numbers o (Give s)
 numbers_some {o} {n} {s} e st =
     subst (λ p. Numbers p (Give s)) (sym e)
-    (record { to = λ x m z h. number-leads x m z h (stands_back h.0 h.1 st) })
+    (record { to = λ x m z h. number_leads x m z h (stands_back h.0 h.1 st) })
 
 pub numbers_none : {o : Option ℤ} → o ≡ None → Numbers o (Fail (record { kind = 1; low = 4; high = 0 }))
 numbers_none {o} e = subst (λ p. Numbers p (Fail (record { kind = 1; low = 4; high = 0 }))) (sym e)
-    (record { to = λ x m z h. number-big x m z h })
+    (record { to = λ x m z h. number_big x m z h })
 
 pub divides_result : {d : Division} {n : ℤ} {s : Slot} → d ≡ Result n → Stands (Number (to_z w64 (of_z w64 n))) s →
     Divides d (Give s)
 divides_result {d} {n} {s} e st =
     subst (λ p. Divides p (Give s)) (sym e)
-    (record { to = λ x m b z h. quotient-leads x m b z h (stands_back h.1 h.2 st) })
+    (record { to = λ x m b z h. quotient_leads x m b z h (stands_back h.1 h.2 st) })
 
 pub divides_big : {d : Division} → d ≡ TooBig → Divides d (Fail (record { kind = 1; low = 4; high = 0 }))
 divides_big {d} e = subst (λ p. Divides p (Fail (record { kind = 1; low = 4; high = 0 }))) (sym e)
-    (record { to = λ x m b z h. quotient-big x m b z h })
+    (record { to = λ x m b z h. quotient_big x m b z h })
 
 pub divides_zero : {d : Division} → d ≡ ByZero → Divides d (Fail (record { kind = 1; low = 3; high = 0 }))
 divides_zero {d} e = subst (λ p. Divides p (Fail (record { kind = 1; low = 3; high = 0 }))) (sym e)
-    (record { to = λ x m b z h. quotient-zero x m b z h })
+    (record { to = λ x m b z h. quotient_zero x m b z h })
 
 pub calculates_as : {o : Operator} (p : Operator) {a b : ℤ} {r : Control} → o ≡ p → Calculates p a b r →
     Calculates o a b r
@@ -194,39 +194,39 @@ pub compared_type : {m : Store} {scratch : List ℕ} {a b : Slot} (o : Operator)
     (o ≡ Unequal → ⊥) → Compared m scratch o a b (Ok (Fail (record { kind = 1; low = 0; high = 0 })))
 compared_type {m} Plus e n = record {
   to =
-      λ x u v hu hv d. fails-type x m
+      λ x u v hu hv d. fails_type x m
       (λ k s. operate_on k s plus u v) (not_numbers u v (λ k s a b. number k s (a +ℤ b)) d);
 }
 compared_type {m} Minus e n = record {
   to =
-      λ x u v hu hv d. fails-type x m
+      λ x u v hu hv d. fails_type x m
       (λ k s. operate_on k s minus u v) (not_numbers u v (λ k s a b. number k s (a -ℤ b)) d);
 }
 compared_type {m} Times e n = record {
   to =
-      λ x u v hu hv d. fails-type x m
+      λ x u v hu hv d. fails_type x m
       (λ k s. operate_on k s times u v) (not_numbers u v (λ k s a b. number k s (a *ℤ b)) d);
 }
 compared_type {m} Divide e n = record {
   to =
-      λ x u v hu hv d. fails-type x m
+      λ x u v hu hv d. fails_type x m
       (λ k s. operate_on k s divide u v) (not_numbers u v (λ k s a b. divided k s b (quotient a b)) d);
 }
 compared_type {m} Modulo e n = record {
   to =
-      λ x u v hu hv d. fails-type x m
+      λ x u v hu hv d. fails_type x m
       (λ k s. operate_on k s modulo u v) (not_numbers u v (λ k s a b. divided k s b (remainder a b)) d);
 }
 compared_type {m} Equal e n = absurd (e refl)
 compared_type {m} Unequal e n = absurd (n refl)
 compared_type {m} Less e n = record {
   to =
-      λ x u v hu hv d. fails-type x m
+      λ x u v hu hv d. fails_type x m
       (λ k s. operate_on k s less u v) (not_numbers u v (λ k s a b. gives k s (truth (less_int a b))) d);
 }
 compared_type {m} AtMost e n = record {
   to =
-      λ x u v hu hv d. fails-type x m
+      λ x u v hu hv d. fails_type x m
       (λ k s. operate_on k s at_most u v) (not_numbers u v (λ k s a b. gives k s (truth (not (less_int b a)))) d);
 }
 
@@ -234,13 +234,13 @@ pub compared_equal : {m : Store} {scratch : List ℕ} {a b : Slot} {o : Operator
     o ≡ Equal → SameSim m scratch a b (Ok t) → Truly t r → Compared m scratch o a b (Ok r)
 compared_equal {m} {scratch} {a} {b} {o} {t} {r} e h q =
     subst (λ p. Compared m scratch p a b (Ok r)) (sym e)
-    (record { to = λ x u v hu hv d. truth-as x m (same_v u v) q (h.to x u v hu hv) })
+    (record { to = λ x u v hu hv d. truth_as x m (same_v u v) q (h.to x u v hu hv) })
 
 pub compared_unequal : {m : Store} {scratch : List ℕ} {a b : Slot} {o : Operator} {t : Bool} {r : Control} →
     o ≡ Unequal → SameSim m scratch a b (Ok t) → Truly (not t) r → Compared m scratch o a b (Ok r)
 compared_unequal {m} {scratch} {a} {b} {o} {t} {r} e h q =
     subst (λ p. Compared m scratch p a b (Ok r)) (sym e)
-    (record { to = λ x u v hu hv d. truth-as x m (not (same_v u v)) q (ap not (h.to x u v hu hv)) })
+    (record { to = λ x u v hu hv d. truth_as x m (not (same_v u v)) q (ap not (h.to x u v hu hv)) })
 
 pub compared_large : {m : Store} {scratch : List ℕ} {a b : Slot} {o : Operator} {e : Refusal} →
     SameSim m scratch a b (Err e) → Compared m scratch o a b (Err e)
@@ -250,38 +250,38 @@ compared_large {e = TooLarge} h = record { to = λ x u v hu hv d. h.to x u v hu 
 -- two operands, the last one first
 module _ {m : Store} {st one two rest : Slot} (p : two ≡ left_of m.words st) (q : rest ≡ right_of m.words st)
     (r : one ≡ left_of m.words rest) where
-  second-held : {ns : List Name} {u v : Value} → Chain ns m st (v ∷ u ∷ []) → Holds ns m two v
-  second-held {ns} {u} {v} c = subst
+  second_held : {ns : List Name} {u v : Value} → Chain ns m st (v ∷ u ∷ []) → Holds ns m two v
+  second_held {ns} {u} {v} c = subst
       (λ z. Holds ns m z v) (sym p) (record { fine = c.fine.0; stands = node_left c.stands })
 
-  first-held : {ns : List Name} {u v : Value} → Chain ns m st (v ∷ u ∷ []) → Holds ns m one u
-  first-held {ns} {u} {v} c = subst
+  first_held : {ns : List Name} {u v : Value} → Chain ns m st (v ∷ u ∷ []) → Holds ns m one u
+  first_held {ns} {u} {v} c = subst
       (λ z. Holds ns m z u) (sym (r ∙ ap (left_of m.words) q))
       (record { fine = c.fine.1.0; stands = node_left (node_right c.stands) })
 
-  pub operate-first : {scratch : List ℕ} {o : Operator} {w : Answered Control Refusal} → AsNumber one None →
+  pub operate_first : {scratch : List ℕ} {o : Operator} {w : Answered Control Refusal} → AsNumber one None →
       Compared m scratch o one two w → OperateSim m scratch o st w
-  operate-first n h = record {
+  operate_first n h = record {
     to =
-        λ x u v c. h.to x u v (first-held c) (second-held c) (inl (n.is (first-held c)));
+        λ x u v c. h.to x u v (first_held c) (second_held c) (inl (n.is (first_held c)));
   }
 
-  pub operate-second : {scratch : List ℕ} {o : Operator} {w : Answered Control Refusal} → AsNumber two None →
+  pub operate_second : {scratch : List ℕ} {o : Operator} {w : Answered Control Refusal} → AsNumber two None →
       Compared m scratch o one two w → OperateSim m scratch o st w
-  operate-second n h = record {
+  operate_second n h = record {
     to =
-        λ x u v c. h.to x u v (first-held c) (second-held c) (inr (n.is (second-held c)));
+        λ x u v c. h.to x u v (first_held c) (second_held c) (inr (n.is (second_held c)));
   }
 
-  pub operate-both : {scratch : List ℕ} {o : Operator} {a b : ℤ} {w : Control} → AsNumber one (Some a) →
+  pub operate_both : {scratch : List ℕ} {o : Operator} {a b : ℤ} {w : Control} → AsNumber one (Some a) →
       AsNumber two (Some b) → Calculates o (to_z w64 (of_z w64 a)) (to_z w64 (of_z w64 b)) w →
       OperateSim m scratch o st (Ok w)
-  operate-both {scratch} {o} {a} {b} {w} n n' h = record {
+  operate_both {scratch} {o} {a} {b} {w} n n' h = record {
     to = λ x u v c.
-        let e : u ≡ v_int a = n.is (first-held c) in
-        let e' : v ≡ v_int b = n'.is (second-held c) in
-        let f : fits a ≡ true = subst (Fine x.names) e (first-held c).fine in
-        let f' : fits b ≡ true = subst (Fine x.names) e' (second-held c).fine in
+        let e : u ≡ v_int a = n.is (first_held c) in
+        let e' : v ≡ v_int b = n'.is (second_held c) in
+        let f : fits a ≡ true = subst (Fine x.names) e (first_held c).fine in
+        let f' : fits b ≡ true = subst (Fine x.names) e' (second_held c).fine in
         subst (λ z. Leads x m w (λ k s. operate_on k s (operator_of o) z v)) (sym e)
         (subst (λ z. Leads x m w (λ k s. operate_on k s (operator_of o) (v_int a) z)) (sym e')
         ((both_back (λ a b. Calculates o a b w) a b (sfits a f) (sfits b f') h).to x m));
@@ -293,7 +293,7 @@ module _ {m : Store} {st one two rest : Slot} (p : two ≡ left_of m.words st) (
     holds = λ c. record {
       fine = (c.fine.1.0, c.fine.0);
       stands =
-          h.stands (omega arith) (first-held c).stands (second-held c).stands;
+          h.stands (omega arith) (first_held c).stands (second_held c).stands;
     };
     count = h.count;
   }

@@ -284,9 +284,9 @@ module _ (x : World) (s : System) (me : Worker) {m : Store} {k : List Frame} (w 
       Reached x s me m m j (GoesOn c f) (call_code k s o)
   called j (entry h) = record { outcome = goes_on_is h fs; most = omega arith }
 
-  not-called : {o : Maybe Meant} (j : ℕ) → Enters x m None o →
+  not_called : {o : Maybe Meant} (j : ℕ) → Enters x m None o →
       Reached x s me m m j (GoesOn (Fail (record { kind = 1; low = 5; high = 0 })) f) (call_code k s o)
-  not-called j no_entry = record {
+  not_called j no_entry = record {
     outcome =
         goes_on_is (fail_is _ (atom_holds x a_undef 5 x.atoms.undef_at (omega arith))) fs;
     most = omega arith;
@@ -296,71 +296,71 @@ module _ (x : World) (s : System) (me : Worker) {m : Store} {k : List Frame} (w 
       Reached x s me m m j (Spawns c f) (spawn_code k s o)
   spawned j (entry h) = record { outcome = spawns_is h fs; most = omega arith }
 
-  not-spawned : {o : Maybe Meant} (j : ℕ) → Enters x m None o →
+  not_spawned : {o : Maybe Meant} (j : ℕ) → Enters x m None o →
       Reached x s me m m j (GoesOn (Fail (record { kind = 1; low = 5; high = 0 })) f) (spawn_code k s o)
-  not-spawned j no_entry = record {
+  not_spawned j no_entry = record {
     outcome =
         goes_on_is (fail_is _ (atom_holds x a_undef 5 x.atoms.undef_at (omega arith))) fs;
     most = omega arith;
   }
 
   module _ {code functions : List ℕ} {n : ℕ} (q : Runs x code functions) (sw : Sited x.program n w) where
-    pub perform-call : {st : Slot} {i c : ℕ} {b : Control} {o : Done} (vs : List Value) →
+    pub perform_call : {st : Slot} {i c : ℕ} {b : Control} {o : Done} (vs : List Value) →
         OperationIs x.names (Call (record { 0 = i }) c) o (length vs) → Chain x.names m st (reverse vs) →
         EnterSim code functions n i c st (Some b) →
         Reached x s me m m (1 + length vs) (GoesOn b f) (perform x.program k s me.pid w o vs)
-    perform-call vs (call_is {y = y} fi kn ct) ch h = called _ (h.to x y vs w q sw kn fi ct ch)
+    perform_call vs (call_is {y = y} fi kn ct) ch h = called _ (h.to x y vs w q sw kn fi ct ch)
 
-    pub perform-no-call : {st : Slot} {i c : ℕ} {o : Done} (vs : List Value) →
+    pub perform_no_call : {st : Slot} {i c : ℕ} {o : Done} (vs : List Value) →
         OperationIs x.names (Call (record { 0 = i }) c) o (length vs) → Chain x.names m st (reverse vs) →
         EnterSim code functions n i c st None →
         Reached x s me m m (1 + length vs) (GoesOn (Fail (record { kind = 1; low = 5; high = 0 })) f)
         (perform x.program k s me.pid w o vs)
-    perform-no-call vs (call_is {y = y} fi kn ct) ch h = not-called _ (h.to x y vs w q sw kn fi ct ch)
+    perform_no_call vs (call_is {y = y} fi kn ct) ch h = not_called _ (h.to x y vs w q sw kn fi ct ch)
 
-    pub perform-spawn : {st : Slot} {i c : ℕ} {b : Control} {o : Done} (vs : List Value) →
+    pub perform_spawn : {st : Slot} {i c : ℕ} {b : Control} {o : Done} (vs : List Value) →
         OperationIs x.names (Spawn (record { 0 = i }) c) o (length vs) → Chain x.names m st (reverse vs) →
         EnterSim code functions n i c st (Some b) →
         Reached x s me m m (1 + length vs) (Spawns b f) (perform x.program k s me.pid w o vs)
-    perform-spawn vs (spawn_is {y = y} fi kn ct) ch h = spawned _ (h.to x y vs w q sw kn fi ct ch)
+    perform_spawn vs (spawn_is {y = y} fi kn ct) ch h = spawned _ (h.to x y vs w q sw kn fi ct ch)
 
-    pub perform-no-spawn : {st : Slot} {i c : ℕ} {o : Done} (vs : List Value) →
+    pub perform_no_spawn : {st : Slot} {i c : ℕ} {o : Done} (vs : List Value) →
         OperationIs x.names (Spawn (record { 0 = i }) c) o (length vs) → Chain x.names m st (reverse vs) →
         EnterSim code functions n i c st None →
         Reached x s me m m (1 + length vs) (GoesOn (Fail (record { kind = 1; low = 5; high = 0 })) f)
         (perform x.program k s me.pid w o vs)
-    perform-no-spawn vs (spawn_is {y = y} fi kn ct) ch h = not-spawned _ (h.to x y vs w q sw kn fi ct ch)
+    perform_no_spawn vs (spawn_is {y = y} fi kn ct) ch h = not_spawned _ (h.to x y vs w q sw kn fi ct ch)
 
-  pub perform-far-call : {st : Slot} {h : Far} {o : Done} (vs : List Value) →
+  pub perform_far_call : {st : Slot} {h : Far} {o : Done} (vs : List Value) →
       OperationIs x.names (FarCall h) o (length vs) → Chain x.names m st (reverse vs) →
       Reached x s me m m (1 + length vs) (Calls h st f) (perform x.program k s me.pid w o vs)
-  perform-far-call vs (far_call_is fa) ch = record { outcome = calls_is vs fa ch fs; most = omega arith }
+  perform_far_call vs (far_call_is fa) ch = record { outcome = calls_is vs fa ch fs; most = omega arith }
 
-  pub perform-far-spawn : {st : Slot} {h : Far} {o : Done} (vs : List Value) →
+  pub perform_far_spawn : {st : Slot} {h : Far} {o : Done} (vs : List Value) →
       OperationIs x.names (FarSpawn h) o (length vs) → Chain x.names m st (reverse vs) →
       Reached x s me m m (1 + length vs) (SpawnsFar h st f) (perform x.program k s me.pid w o vs)
-  perform-far-spawn vs (far_spawn_is fa) ch = record { outcome = spawns_far_is vs fa ch fs; most = omega arith }
+  perform_far_spawn vs (far_spawn_is fa) ch = record { outcome = spawns_far_is vs fa ch fs; most = omega arith }
 
-  pub perform-operate : {st : Slot} {scratch : List ℕ} {p : Operator} {c : Control} {o : Done} (vs : List Value) →
+  pub perform_operate : {st : Slot} {scratch : List ℕ} {p : Operator} {c : Control} {o : Done} (vs : List Value) →
       OperationIs x.names (Operate p) o (length vs) → Chain x.names m st (reverse vs) →
       OperateSim m scratch p st (Ok c) →
       Reached x s me m m (1 + length vs) (GoesOn c f) (perform x.program k s me.pid w o vs)
-  perform-operate [] (operate_is p e) ch h = absurd (omega (arith, e))
-  perform-operate (u ∷ []) (operate_is p e) ch h = absurd (omega (arith, e))
-  perform-operate {c = c} (u ∷ v ∷ []) (operate_is p e) ch h =
+  perform_operate [] (operate_is p e) ch h = absurd (omega (arith, e))
+  perform_operate (u ∷ []) (operate_is p e) ch h = absurd (omega (arith, e))
+  perform_operate {c = c} (u ∷ v ∷ []) (operate_is p e) ch h =
       let l = h.to x u v ch in
       subst (λ z. Reached x s me m m 3 (GoesOn c f) z) (sym (l.is k s))
       (record { outcome = goes_on_is l.stands fs; most = omega arith })
-  perform-operate (u ∷ v ∷ v' ∷ vs) (operate_is p e) ch h = absurd (omega (arith, e))
+  perform_operate (u ∷ v ∷ v' ∷ vs) (operate_is p e) ch h = absurd (omega (arith, e))
 
-  pub perform-large : {st : Slot} {scratch : List ℕ} {p : Operator} {e : Refusal} {o : Done} (vs : List Value) →
+  pub perform_large : {st : Slot} {scratch : List ℕ} {p : Operator} {e : Refusal} {o : Done} (vs : List Value) →
       OperationIs x.names (Operate p) o (length vs) → Chain x.names m st (reverse vs) →
       OperateSim m scratch p st (Err e) → Refused x m scratch (1 + length vs) vs e
-  perform-large [] (operate_is p q) ch h = absurd (omega (arith, q))
-  perform-large (u ∷ []) (operate_is p q) ch h = absurd (omega (arith, q))
-  perform-large {e = Full} (u ∷ v ∷ []) (operate_is p q) ch h = absurd (h.to x u v ch)
-  perform-large {e = TooLarge} (u ∷ v ∷ []) (operate_is p q) ch h = h.to x u v ch
-  perform-large (u ∷ v ∷ v' ∷ vs) (operate_is p q) ch h = absurd (omega (arith, q))
+  perform_large [] (operate_is p q) ch h = absurd (omega (arith, q))
+  perform_large (u ∷ []) (operate_is p q) ch h = absurd (omega (arith, q))
+  perform_large {e = Full} (u ∷ v ∷ []) (operate_is p q) ch h = absurd (h.to x u v ch)
+  perform_large {e = TooLarge} (u ∷ v ∷ []) (operate_is p q) ch h = h.to x u v ch
+  perform_large (u ∷ v ∷ v' ∷ vs) (operate_is p q) ch h = absurd (omega (arith, q))
 
   pub perform-ask : {st : Slot} {b : Builtin} {pid : ℕ} {r : Outcome} {o : Done} (vs : List Value) →
       OperationIs x.names (BuiltIn b) o (length vs) → me.pid ≡ pid → Chain x.names m st (reverse vs) →

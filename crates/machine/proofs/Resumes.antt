@@ -81,24 +81,24 @@ held_back : {v : Slot} {z : ℤ} {ns : List Name} {m : Store} {u : Value} → As
 held_back {v} {z} {ns} n hv = to_z-of_z w64 z (sfits z (subst (Fine ns) (n.is hv) hv.fine))
 
 module _ {v p t : Slot} {a : Site} where
-  pub time-no-number : AsNumber v None → TimeSim v p a t (GoesOn (Fail (record { kind = 1; low = 0; high = 0 })) t)
-  time-no-number n = record {
+  pub time_no_number : AsNumber v None → TimeSim v p a t (GoesOn (Fail (record { kind = 1; low = 0; high = 0 })) t)
+  time_no_number n = record {
     to =
         λ x s me k sc cs e b w u hv ce si fs. no_time x s me k cs b w u fs
         (ap (λ o. opt o (error k s a_type) (wait_until k s cs b w)) (n.is hv));
   }
 
-  pub time-below : {z : ℤ} → AsNumber v (Some z) → lt_z (to_z w64 (of_z w64 z)) (pos 0) ≡ true →
+  pub time_below : {z : ℤ} → AsNumber v (Some z) → lt_z (to_z w64 (of_z w64 z)) (pos 0) ≡ true →
       TimeSim v p a t (GoesOn (Fail (record { kind = 1; low = 0; high = 0 })) t)
-  time-below {z} n h = record {
+  time_below {z} n h = record {
     to = λ x {m} s me k sc cs e b w u hv ce si fs.
         no_time x s me k cs b w u fs (ap (λ o. opt (as_int o) (error k s a_type) (wait_until k s cs b w)) (n.is hv)
         ∙ below z (subst (λ q. lt_z q (pos 0) ≡ true) (held_back n hv) h) k s cs b w);
   }
 
-  pub time-waits : {z : ℤ} {d : ℕ} → AsNumber v (Some z) → lt_z (to_z w64 (of_z w64 z)) (pos 0) ≡ false →
+  pub time_waits : {z : ℤ} {d : ℕ} → AsNumber v (Some z) → lt_z (to_z w64 (of_z w64 z)) (pos 0) ≡ false →
       d ≡ of_z w64 (to_z w64 (of_z w64 z)) → TimeSim v p a t (WaitsFor p a d t)
-  time-waits {z} {d} n h q = record {
+  time_waits {z} {d} n h q = record {
     to = λ x {m} s me k sc cs e b w u hv ce si fs.
         let back = held_back n hv in
         let g : z ≡ pos d = at_least z (subst (λ q. lt_z q (pos 0) ≡ false) back h) (q ∙ ap (of_z w64) back) in

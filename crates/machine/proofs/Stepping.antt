@@ -45,12 +45,12 @@ atom_holds {m} x y i e h = record {
 
 -- a frame that waits in a scope
 module _ (x : World) (s : System) (me : Worker) {m : Store} {k : List Waiting} {f : Slot} where
-  pub begin-statement : {m' : Store} {code : List ℕ} {p q r : Slot} {a : Site} {sc : List Name} {b : Body}
+  pub begin_statement : {m' : Store} {code : List ℕ} {p q r : Slot} {a : Site} {sc : List Name} {b : Body}
       {w : Scope} → Statement q ≡ start_at code p → x.code.words ≡ code → CodeB x.names sc x.code p b →
       SiteIs x m sc a w → FramesAt x m f k →
       Kept m m' → Framing m m' 33 p.low a.section a.env f r →
       Reached x s me m m' 2 (GoesOn (Eval q a) r) (begin_body k s b w)
-  begin-statement {m'} {code} {p} {q} {r} {a} {sc} {b} {w} e c cb si fs g h =
+  begin_statement {m'} {code} {p} {q} {r} {a} {sc} {b} {w} e c cb si fs g h =
       go (start_as (e ∙ ap (λ z. start_at z p) (sym c)) cb)
     where
       go : {b : Body} → StartIs x.names sc x.code p (Statement q) b →
@@ -67,11 +67,11 @@ module _ (x : World) (s : System) (me : Worker) {m : Store} {k : List Waiting} {
         most = omega (arith, h.count);
       }
 
-  pub begin-last : {code : List ℕ} {p : Slot} {a : Site} {sc : List Name} {b : Body} {w : Scope} →
+  pub begin_last : {code : List ℕ} {p : Slot} {a : Site} {sc : List Name} {b : Body} {w : Scope} →
       Last ≡ start_at code p → x.code.words ≡ code → CodeB x.names sc x.code p b → SiteIs x m sc a w →
       FramesAt x m f k →
       Reached x s me m m 2 (GoesOn (Eval p a) f) (begin_body k s b w)
-  begin-last {code} {p} {a} {sc} {b} {w} e c cb si fs = go (start_as (e ∙ ap (λ z. start_at z p) (sym c)) cb)
+  begin_last {code} {p} {a} {sc} {b} {w} e c cb si fs = go (start_as (e ∙ ap (λ z. start_at z p) (sym c)) cb)
     where
       go : {b : Body} → StartIs x.names sc x.code p Last b →
           Reached x s me m m 2 (GoesOn (Eval p a) f) (begin_body k s b w)
@@ -84,25 +84,25 @@ module _ (x : World) (s : System) (me : Worker) {m : Store} {v : Slot} (u : Valu
   unwind-operands (operands_is sc vs c si ch fs) =
       record { outcome = goes_on_is (fail_is u hv) fs; most = omega arith }
 
-  pub unwind-bind : {k : List Waiting} {p t : Slot} {a : Site} → FrameIs x m (Bind p a t) k →
+  pub unwind_bind : {k : List Waiting} {p t : Slot} {a : Site} → FrameIs x m (Bind p a t) k →
       Reached x s me m m 2 (GoesOn (Fail v) t) (unwind s me u k)
-  unwind-bind (bind_is sc c si fs) = record { outcome = goes_on_is (fail_is u hv) fs; most = omega arith }
+  unwind_bind (bind_is sc c si fs) = record { outcome = goes_on_is (fail_is u hv) fs; most = omega arith }
 
-  pub unwind-case : {k : List Waiting} {p t : Slot} {a : Site} → FrameIs x m (Case p a t) k →
+  pub unwind_case : {k : List Waiting} {p t : Slot} {a : Site} → FrameIs x m (Case p a t) k →
       Reached x s me m m 2 (GoesOn (Fail v) t) (unwind s me u k)
-  unwind-case (case_is sc c si fs) = record { outcome = goes_on_is (fail_is u hv) fs; most = omega arith }
+  unwind_case (case_is sc c si fs) = record { outcome = goes_on_is (fail_is u hv) fs; most = omega arith }
 
-  pub unwind-until : {k : List Waiting} {p t : Slot} {a : Site} → FrameIs x m (Until p a t) k →
+  pub unwind_until : {k : List Waiting} {p t : Slot} {a : Site} → FrameIs x m (Until p a t) k →
       Reached x s me m m 2 (GoesOn (Fail v) t) (unwind s me u k)
-  unwind-until (until_is sc c si fs) = record { outcome = goes_on_is (fail_is u hv) fs; most = omega arith }
+  unwind_until (until_is sc c si fs) = record { outcome = goes_on_is (fail_is u hv) fs; most = omega arith }
 
-  pub unwind-bottom : {k : List Waiting} → FrameIs x m Bottom k → Reached x s me m m 2 (Ended v) (unwind s me u k)
-  unwind-bottom bottom_is = record { outcome = ended_is u hv; most = omega arith }
+  pub unwind_bottom : {k : List Waiting} → FrameIs x m Bottom k → Reached x s me m m 2 (Ended v) (unwind s me u k)
+  unwind_bottom bottom_is = record { outcome = ended_is u hv; most = omega arith }
 
-  pub unwind-catch : {k : List Waiting} {m' : Store} {t r : Slot} → FrameIs x m (Catch t) k → Kept m m' →
+  pub unwind_catch : {k : List Waiting} {m' : Store} {t r : Slot} → FrameIs x m (Catch t) k → Kept m m' →
       Tagged m m' (record { kind = 1; low = 10; high = 0 }) v r →
       Reached x s me m m' 2 (GoesOn (Give r) t) (unwind s me u k)
-  unwind-catch (catch_is fs) g h =
+  unwind_catch (catch_is fs) g h =
       record {
         outcome = goes_on_is (give_is _
             (h.holds (atom_holds x a_error 10 x.atoms.error_at (omega arith)) hv)) (frames_kept g fs);

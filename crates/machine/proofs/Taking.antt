@@ -44,50 +44,50 @@ unlent x s me m m' scratch n o (Err TooLarge) h = absurd h
 
 -- a value comes back
 module _ (x : World) (s : System) (me : Worker) {m : Store} {v : Slot} (u : Value) (hv : Holds x.names m v u) where
-  pub resume-operand : {code functions scratch : List ℕ} {m' : Store} {pid : ℕ} {k : List Waiting} {p b t : Slot}
+  pub resume_operand : {code functions scratch : List ℕ} {m' : Store} {pid : ℕ} {k : List Waiting} {p b t : Slot}
       {a : Site} (r : Result Outcome Refusal) → FrameIs x m (Operands p a b t) k → Runs x code functions →
       me.pid ≡ pid → OperandSim code functions m m' scratch pid v p a b t r →
       Answer x s me m m' scratch (resume_cost k) (resume_operands u k) r (resume x.program s me u k)
-  resume-operand r (operands_is sc vs {o = o} {e = e} {es = es} {w = w} {k = k} c si ch fs) q i h =
+  resume_operand r (operands_is sc vs {o = o} {e = e} {es = es} {w = w} {k = k} c si ch fs) q i h =
       h.to x s me k sc o e vs es w u q i hv c si ch fs
 
-  pub resume-bind : {code functions : List ℕ} (scratch : List ℕ) {m' : Store} {k : List Waiting} {p t : Slot}
+  pub resume_bind : {code functions : List ℕ} (scratch : List ℕ) {m' : Store} {k : List Waiting} {p t : Slot}
       {a : Site} (r : Result Outcome Refusal) → FrameIs x m (Bind p a t) k → Runs x code functions →
       BindSim code m m' v p a t r → Answer x s me m m' scratch (resume_cost k) (resume_operands u k) r
       (resume x.program s me u k)
-  resume-bind scratch {m' = m'} r (bind_is sc {q = q} {e = e} {b = b} {w = w} {k = k} c si fs) i h =
+  resume_bind scratch {m' = m'} r (bind_is sc {q = q} {e = e} {b = b} {w = w} {k = k} c si fs) i h =
       unlent x s me m m' scratch _ _ r (h.to x s me k sc q e b w u i.code_is hv c si fs)
 
-  pub resume-case : {code functions : List ℕ} (scratch : List ℕ) {m' : Store} {k : List Waiting} {p t : Slot}
+  pub resume_case : {code functions : List ℕ} (scratch : List ℕ) {m' : Store} {k : List Waiting} {p t : Slot}
       {a : Site} (r : Result Outcome Refusal) → FrameIs x m (Case p a t) k → Runs x code functions →
       CaseSim code m m' v p a t r → Answer x s me m m' scratch (resume_cost k) (resume_operands u k) r
       (resume x.program s me u k)
-  resume-case scratch {m' = m'} r (case_is sc {e = e} {cs = cs} {w = w} {k = k} c si fs) i h =
+  resume_case scratch {m' = m'} r (case_is sc {e = e} {cs = cs} {w = w} {k = k} c si fs) i h =
       unlent x s me m m' scratch _ _ r (h.to x s me k sc e cs w u i.code_is hv c si fs)
 
-  pub resume-until : {k : List Waiting} {p t : Slot} {a : Site} {r : Outcome} → FrameIs x m (Until p a t) k →
+  pub resume_until : {k : List Waiting} {p t : Slot} {a : Site} {r : Outcome} → FrameIs x m (Until p a t) k →
       TimeSim v p a t r → Reached x s me m m (resume_cost k) r (resume x.program s me u k)
-  resume-until (until_is sc {cs = cs} {e = e} {b = b} {w = w} {k = k} c si fs) h =
+  resume_until (until_is sc {cs = cs} {e = e} {b = b} {w = w} {k = k} c si fs) h =
       record { outcome = h.to x s me k sc cs e b w u hv c si fs; most = omega arith }
 
-  pub resume-catch : {m' : Store} {k : List Waiting} {t r : Slot} → FrameIs x m (Catch t) k → Kept m m' →
+  pub resume_catch : {m' : Store} {k : List Waiting} {t r : Slot} → FrameIs x m (Catch t) k → Kept m m' →
       Tagged m m' (record { kind = 1; low = 9; high = 0 }) v r →
       Reached x s me m m' (resume_cost k) (GoesOn (Give r) t) (resume x.program s me u k)
-  resume-catch (catch_is fs) g h =
+  resume_catch (catch_is fs) g h =
       record {
         outcome = goes_on_is (give_is _ (h.holds (atom_holds x a_ok 9 x.atoms.ok_at (omega arith)) hv))
             (frames_kept g fs);
         most = omega (arith, h.count);
       }
 
-  pub resume-catch-full : {k : List Waiting} {t : Slot} → FrameIs x m (Catch t) k →
+  pub resume_catch_full : {k : List Waiting} {t : Slot} → FrameIs x m (Catch t) k →
       length m.words < 6 * (m.used + 2) → length m.words < 6 * (m.used + resume_cost k)
-  resume-catch-full (catch_is fs) h = h
+  resume_catch_full (catch_is fs) h = h
 
-  pub resume-bottom : {k : List Waiting} → FrameIs x m Bottom k →
+  pub resume_bottom : {k : List Waiting} → FrameIs x m Bottom k →
       Reached x s me m m (resume_cost k) (Ended (record { kind = 1; low = 6; high = 0 }))
       (resume x.program s me u k)
-  resume-bottom bottom_is = record {
+  resume_bottom bottom_is = record {
     outcome =
         ended_is (v_atom a_normal) (atom_holds x a_normal 6 x.atoms.normal_at (omega arith));
     most = omega arith;
@@ -96,18 +96,18 @@ module _ (x : World) (s : System) (me : Worker) {m : Store} {v : Slot} (u : Valu
 -- the control
 module _ (x : World) (s : System) (me : Worker) {m m' : Store} {code functions scratch : List ℕ} {f : Slot}
     (r : Result Outcome Refusal) (q : Runs x code functions) (fs : FramesAt x m f me.frames) where
-  pub turn-eval : {pid : ℕ} {p : Slot} {a : Site} {c : Meant} → me.pid ≡ pid → ControlIs x m (Eval p a) c →
+  pub turn_eval : {pid : ℕ} {p : Slot} {a : Site} {c : Meant} → me.pid ≡ pid → ControlIs x m (Eval p a) c →
       EvaluateSim code functions m m' scratch pid p a f r → Turned x s me c m m' scratch r
-  turn-eval i (eval_is sc {e = e} {w = w} ce si) h =
+  turn_eval i (eval_is sc {e = e} {w = w} ce si) h =
       record { meaning = _; is = refl; answer = h.to x s me me.frames sc e w q i ce si fs }
 
-  pub turn-give : {pid : ℕ} {v : Slot} {c : Meant} → me.pid ≡ pid → ControlIs x m (Give v) c →
+  pub turn_give : {pid : ℕ} {v : Slot} {c : Meant} → me.pid ≡ pid → ControlIs x m (Give v) c →
       ResumeSim code functions m m' scratch pid v f r → Turned x s me c m m' scratch r
-  turn-give i (give_is v hv) h = record { meaning = _; is = refl; answer = h.to x s me me.frames v q i hv fs }
+  turn_give i (give_is v hv) h = record { meaning = _; is = refl; answer = h.to x s me me.frames v q i hv fs }
 
-  pub turn-enter : {p : Slot} {a : Site} {c : Meant} → ControlIs x m (Enter p a) c → BeginSim code m m' p a f r →
+  pub turn_enter : {p : Slot} {a : Site} {c : Meant} → ControlIs x m (Enter p a) c → BeginSim code m m' p a f r →
       Turned x s me c m m' scratch r
-  turn-enter (enter_is sc {b = b} {w = w} cb si) h =
+  turn_enter (enter_is sc {b = b} {w = w} cb si) h =
       record {
         meaning = _;
         is = refl;
@@ -115,9 +115,9 @@ module _ (x : World) (s : System) (me : Worker) {m m' : Store} {code functions s
             unlent x s me m m' scratch 2 _ r (h.to x s me me.frames sc b w q.code_is cb si fs);
       }
 
-  pub turn-fail : {v : Slot} {c : Meant} → ControlIs x m (Fail v) c → UnwindSim m m' v f r →
+  pub turn_fail : {v : Slot} {c : Meant} → ControlIs x m (Fail v) c → UnwindSim m m' v f r →
       Turned x s me c m m' scratch r
-  turn-fail (fail_is v hv) h = record {
+  turn_fail (fail_is v hv) h = record {
     meaning = _;
     is = refl;
     answer =

@@ -97,19 +97,19 @@ fn calculate(operator: Operator, a: i64, b: i64) -> Control
     }
 }
 
-fn number(res: Option<i64>) -> Control
-    ensures { Numbers res result }
+fn number(exact: Option<i64>) -> Control
+    ensures { Numbers exact result }
 {
-    match res {
+    match exact {
         Some(n) => Control::Give(Value::Number(n).to_slot()),
         None => Control::Fail(BIG),
     }
 }
 
-fn quotient(res: Division) -> Control
-    ensures { Divides res result }
+fn quotient(division: Division) -> Control
+    ensures { Divides division result }
 {
-    match res {
+    match division {
         Division::Result(n) => Control::Give(Value::Number(n).to_slot()),
         Division::TooBig => Control::Fail(BIG),
         Division::ByZero => Control::Fail(ZERO),

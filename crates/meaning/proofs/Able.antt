@@ -27,10 +27,10 @@ use Rattle.meaning.proofs.Splits.{some_or_none, none_some, some_is}
 
 -- who can go on still can, or is no more
 module _ (g : Program) (s t : System) where
-  pub still-could : (q : ℕ) (w : Worker) (o : Option Worker) → s.clock ≤ t.clock → can g s w ≡ true →
+  pub still_could : (q : ℕ) (w : Worker) (o : Option Worker) → s.clock ≤ t.clock → can g s w ≡ true →
       UndisturbedOrGone w o → find t.workers q ≡ o → Could g t q ⊎ (find t.workers q ≡ none)
-  still-could q w none le c y e = inr e
-  still-could q w (some x) le c (a, (ms, b)) e =
+  still_could q w none le c y e = inr e
+  still_could q w (some x) le c (a, (ms, b)) e =
       inl (
         x,
         e,
@@ -38,10 +38,10 @@ module _ (g : Program) (s t : System) where
             ∙ ready_more s.clock t.clock w.control w.mail ms le (sym (can_is g s w) ∙ c),
       )
 
-  pub could-stays : (n q : ℕ) → Past n s t → (q ≡ n → ⊥) → Could g s q → Could g t q ⊎ (find t.workers q ≡ none)
-  could-stays n q p d (w, f, c) =
+  pub could_stays : (n q : ℕ) → Past n s t → (q ≡ n → ⊥) → Could g s q → Could g t q ⊎ (find t.workers q ≡ none)
+  could_stays n q p d (w, f, c) =
       let e = p.clock in
-      still-could q w (find t.workers q) (omega arith) c (p.others q w d f) refl
+      still_could q w (find t.workers q) (omega arith) c (p.others q w d f) refl
 
 pub can_stays : CanStays
 can_stays g l s t m q w r e other f c = go m e other
@@ -54,13 +54,13 @@ can_stays g l s t m q w r e other f c = go m e other
     turned (inr a) = inl a
 
     go : (m : Move) → move g s m ≡ is t → (m ≡ turn q → ⊥) → (find t.workers q ≡ none) ⊎ Could g t q
-    go (turn n) e d = turned (could-stays g s t n q (after_turn g s t n numbered e)
+    go (turn n) e d = turned (could_stays g s t n q (after_turn g s t n numbered e)
         (λ z. d (ap turn (sym z))) (w, f, c))
-    go signal e d = turned (could-stays g s t s.next q (after_signal g s t s.next numbered e)
+    go signal e d = turned (could_stays g s t s.next q (after_signal g s t s.next numbered e)
         (λ z. let h = below_next s numbered q w f in omega arith) (w, f, c))
     go tick e d = turned (on_is_of (λ u. Could g u q ⊎ (find u.workers q ≡ none)) (clock_on s) t
         (tick_all (λ u. Could g u q ⊎ (find u.workers q ≡ none)) (Unit {0}) s
-        (λ u l. still-could g s (with_clock s u) q w (some w) (omega arith) c (undisturbed_same w) f)) e)
+        (λ u l. still_could g s (with_clock s u) q w (some w) (omega arith) c (undisturbed_same w) f)) e)
 
 pub newly_able : NewlyAble
 newly_able g l s t n q x r e d f c = go (some_or_none (find s.workers q))
@@ -76,17 +76,17 @@ newly_able g l s t n q x r e d f c = go (some_or_none (find s.workers q))
         on_is_of (AtMostOneNew s) (move g s (turn n)) t (move-one_new g s (turn n)) e in
         omega arith
 
-    with-mail : (w : Worker) → x.control ≡ w.control → (ms : List Value) → x.mail ≡ w.mail ++ ms →
+    with_mail : (w : Worker) → x.control ≡ w.control → (ms : List Value) → x.mail ≡ w.mail ++ ms →
         length ms ≤ 1 → (can g s w ≡ true) ⊎ ((v : Value) × (x.mail ≡ w.mail ++ (v ∷ [])))
-    with-mail w a [] h k = inl (sym (can-same g s t w x past.clock a (h ∙ append-nil w.mail)) ∙ c)
-    with-mail w a (v ∷ []) h k = inr (v, h)
-    with-mail w a (v ∷ u ∷ ms) h k = absurd (omega arith)
+    with_mail w a [] h k = inl (sym (can-same g s t w x past.clock a (h ∙ append-nil w.mail)) ∙ c)
+    with_mail w a (v ∷ []) h k = inr (v, h)
+    with_mail w a (v ∷ u ∷ ms) h k = absurd (omega arith)
 
     was : (w : Worker) → AloneOrSwapped s q w t →
         (can g s w ≡ true) ⊎ ((v : Value) × (x.mail ≡ w.mail ++ (v ∷ [])))
     was w (inl (y, h, a)) =
         let b = subst (LeftAlone w) (some_is (sym h ∙ f)) a in
-        with-mail w b.0 b.3.0 b.3.1 b.3.2
+        with_mail w b.0 b.3.0 b.3.1 b.3.2
     was w (inr (h, a)) = absurd (none_some (sym a ∙ f))
 
     go : (find s.workers q ≡ none) ⊎ ((w : Worker) × (find s.workers q ≡ some w)) →

@@ -17,14 +17,14 @@ use Rattle.meaning.specs.Scheduler.{by_tick, by_round, by_pop, same_slice, slice
 use Rattle.meaning.specs.Rounds.{Leads, AtRound}
 use Rattle.meaning.proofs.Queue.{Mem-worker, Mem-round, Mem-one, At-none, Mem-behind, could_not_gone, Mem-left}
 use Rattle.meaning.proofs.Queue.{Mem-right, Mem-split, Distinct-append, Before_last, Before_kept, kept_whole}
-use Rattle.meaning.proofs.Queue.{Before-cases, Before_append, Before-mem, kept_mem}
+use Rattle.meaning.proofs.Queue.{Before-cases, Before-append, Before-mem, kept_mem}
 use Rattle.meaning.proofs.Ready.{due-could}
 use Rattle.meaning.proofs.Past.{Undisturbed, undisturbed_same, UndisturbedOrGone, Past, after_turn, after_signal}
 use Rattle.meaning.proofs.Splits.{equal_or_not, some_or_none, impossible}
-use Rattle.meaning.proofs.Exact.{exact-served, exact-over, exact-back, exact-ticked, all_after}
+use Rattle.meaning.proofs.Exact.{exact_served, exact_over, exact_back, exact_ticked, all_after}
 use Rattle.meaning.proofs.Times.{no_first_time, first_time_waited, tick_is}
 use Rattle.meaning.proofs.Alive.{alive_kept, alive_there}
-use Rattle.meaning.proofs.Able.{still-could, could-stays}
+use Rattle.meaning.proofs.Able.{still_could, could_stays}
 
 -- whose time has come after a turn of n or a signal, its time had come before
 due-before : (n : ℕ) (s t : System) → Past n s t → (q : ℕ) → (q ≡ n → ⊥) → Due t q → Due s q
@@ -42,41 +42,41 @@ due_found s q (w, u, f, e, l) h = impossible (cc)
 
 module _ (g : Program) (s t : System) (n k : ℕ) (es new : List Entry) (i : Good g s (serve n (suc k)) es)
     (mv : move g s (turn n) ≡ is t) (w : Woken g n s t new) where
-  turn-past : Past n s t
-  turn-past = after_turn g s t n i.numbered mv
+  turn_past : Past n s t
+  turn_past = after_turn g s t n i.numbered mv
 
-  turn-timely : (q : ℕ) → (q ≡ n → ⊥) → Due t q → Before (worker q) round (alive t es)
-  turn-timely q d y = go (Before-cases (i.timely q (due-before n s t turn-past q d y)))
+  turn_timely : (q : ℕ) → (q ≡ n → ⊥) → Due t q → Before (worker q) round (alive t es)
+  turn_timely q d y = go (Before-cases (i.timely q (due-before n s t turn_past q d y)))
     where
       go : ((worker q ≡ worker n) × Mem round es) ⊎ Before (worker q) round es → Before (worker q) round (alive t es)
       go (inl (e, m)) = let z : q ≡ n = cc in absurd (d z)
       go (inr b) = Before_kept q (alive_kept t es) (due_found t q y) b
 
-  turn-rounds : Mem round (alive t es ++ new)
-  turn-rounds = Mem-left new (kept_mem round tt (alive_kept t es) i.exact.rounds)
+  turn_rounds : Mem round (alive t es ++ new)
+  turn_rounds = Mem-left new (kept_mem round tt (alive_kept t es) i.exact.rounds)
 
-  turn-could-stays : (q : ℕ) → (q ≡ n → ⊥) → Could g s q → Could g t q ⊎ (find t.workers q ≡ none)
-  turn-could-stays q d c = could-stays g s t n q turn-past d c
+  turn_could_stays : (q : ℕ) → (q ≡ n → ⊥) → Could g s q → Could g t q ⊎ (find t.workers q ≡ none)
+  turn_could_stays q d c = could_stays g s t n q turn_past d c
 
-  turn-able : (q : ℕ) → Mem (worker q) es → Could g s q
-  turn-able q m = i.exact.able q (Mem-behind (worker n) m)
+  turn_able : (q : ℕ) → Mem (worker q) es → Could g s q
+  turn_able q m = i.exact.able q (Mem-behind (worker n) m)
 
   -- the worker goes on
   pub turn_on : Could g t n → Leads g s (serve n (suc k)) es (turn n ∷ []) t (serve n k) (alive t es ++ new)
   turn_on c = (
     by_turn new mv (alive_kept t es) same_slice,
     record {
-      numbered = turn-past.numbered;
-      exact = exact-served g s t n turn-could-stays es (alive t es) new (alive_kept t es) (alive_there t es) w
-          i.exact.once turn-able i.exact.all k (let h = i.exact.small in omega arith) c turn-rounds;
+      numbered = turn_past.numbered;
+      exact = exact_served g s t n turn_could_stays es (alive t es) new (alive_kept t es) (alive_there t es) w
+          i.exact.once turn_able i.exact.all k (let h = i.exact.small in omega arith) c turn_rounds;
       timely = λ q y. side q y (equal_or_not q n);
     },
   )
     where
       side : (q : ℕ) → Due t q → (q ≡ n) ⊎ (q ≡ n → ⊥) → Before (worker q) round (worker n ∷ (alive t es ++ new))
       side q y (inl e) = subst (λ z. Before (worker z) round (worker n ∷ (alive t es ++ new))) (sym e)
-          (first turn-rounds)
-      side q y (inr d) = next (Before_append new (turn-timely q d y))
+          (first turn_rounds)
+      side q y (inr d) = next (Before-append new (turn_timely q d y))
 
   -- its slice is over, but never where its time has come
   pub turn_back : Could g t n → (Due t n → ⊥) →
@@ -84,10 +84,10 @@ module _ (g : Program) (s t : System) (n k : ℕ) (es new : List Entry) (i : Goo
   turn_back c h = (
     by_turn (new ++ (worker n ∷ [])) mv (alive_kept t es) slice_over,
     record {
-      numbered = turn-past.numbered;
-      exact = exact-back g s t n turn-could-stays es (alive t es) new (alive_kept t es) (alive_there t es) w
-          i.exact.once turn-able i.exact.all batch (omega arith) c turn-rounds;
-      timely = λ q y. Before_append (new ++ (worker n ∷ [])) (turn-timely q (λ e. h (subst (Due t) e y)) y);
+      numbered = turn_past.numbered;
+      exact = exact_back g s t n turn_could_stays es (alive t es) new (alive_kept t es) (alive_there t es) w
+          i.exact.once turn_able i.exact.all batch (omega arith) c turn_rounds;
+      timely = λ q y. Before-append (new ++ (worker n ∷ [])) (turn_timely q (λ e. h (subst (Due t) e y)) y);
     },
   )
 
@@ -96,10 +96,10 @@ module _ (g : Program) (s t : System) (n k : ℕ) (es new : List Entry) (i : Goo
   turn_over h = (
     by_turn new mv (alive_kept t es) slice_over,
     record {
-      numbered = turn-past.numbered;
-      exact = exact-over g s t n turn-could-stays es (alive t es) new (alive_kept t es) (alive_there t es) w
-          i.exact.once turn-able i.exact.all batch (omega arith) h turn-rounds;
-      timely = λ q y. Before_append new (turn-timely q (λ e. h (due-could g t n (subst (Due t) e y))) y);
+      numbered = turn_past.numbered;
+      exact = exact_over g s t n turn_could_stays es (alive t es) new (alive_kept t es) (alive_there t es) w
+          i.exact.once turn_able i.exact.all batch (omega arith) h turn_rounds;
+      timely = λ q y. Before-append new (turn_timely q (λ e. h (due-could g t n (subst (Due t) e y))) y);
     },
   )
 
@@ -109,27 +109,27 @@ nobody_beyond g s i n l c = could_not_gone g s n (i.1 n l) c
 
 module _ (g : Program) (s t : System) (k : ℕ) (es new : List Entry) (i : Good g s (flush (suc k)) es)
     (mv : move g s signal ≡ is t) (w : Woken g t.next s t new) where
-  signal-past : Past t.next s t
-  signal-past = after_signal g s t t.next i.numbered mv
+  signal_past : Past t.next s t
+  signal_past = after_signal g s t t.next i.numbered mv
 
-  could-not-next : (q : ℕ) → Could g s q → q ≡ t.next → ⊥
-  could-not-next q c e = let h = signal-past.next in nobody_beyond g s i.numbered q (omega arith) c
+  could_not_next : (q : ℕ) → Could g s q → q ≡ t.next → ⊥
+  could_not_next q c e = let h = signal_past.next in nobody_beyond g s i.numbered q (omega arith) c
 
   pub signalled : Leads g s (flush (suc k)) es (signal ∷ []) t (flush k) (alive t es ++ new)
   signalled = (
     by_signal new mv (alive_kept t es),
     record {
-      numbered = signal-past.numbered;
-      exact = exact-over g s t t.next
-          (λ q d c. could-stays g s t t.next q signal-past d c) es (alive t es) new (alive_kept t es)
-          (alive_there t es) w ((λ m. could-not-next t.next (i.exact.able t.next m) refl), i.exact.once)
+      numbered = signal_past.numbered;
+      exact = exact_over g s t t.next
+          (λ q d c. could_stays g s t t.next q signal_past d c) es (alive t es) new (alive_kept t es)
+          (alive_there t es) w ((λ m. could_not_next t.next (i.exact.able t.next m) refl), i.exact.once)
           i.exact.able (λ q c. Mem-behind (worker t.next) (i.exact.all q c)) k (let h = i.exact.small in
-          omega arith) (nobody_beyond g t signal-past.numbered t.next (omega arith))
+          omega arith) (nobody_beyond g t signal_past.numbered t.next (omega arith))
           (Mem-left new (kept_mem round tt (alive_kept t es) i.exact.rounds));
-      timely = λ q y. Before_append new
+      timely = λ q y. Before-append new
           (Before_kept q (alive_kept t es) (due_found t q y)
-          (i.timely q (due-before t.next s t signal-past q
-          (λ e. nobody_beyond g t signal-past.numbered q (omega arith) (due-could g t q y)) y)));
+          (i.timely q (due-before t.next s t signal_past q
+          (λ e. nobody_beyond g t signal_past.numbered q (omega arith) (due-could g t q y)) y)));
     },
   )
 
@@ -152,60 +152,60 @@ at_round g s k es i = go (first_time s.workers) refl
         side (yes l) = absurd (no_due g s k es i q (w, u, f, e, l))
         side (no l) = omega arith
 
-    first-late : (u : ℕ) → first_time s.workers ≡ some u → s.clock < u
-    first-late u e = let r = first_time_waited s.workers u i.numbered.0 e in late r.0 r.1 u r.2 r.3
+    first_late : (u : ℕ) → first_time s.workers ≡ some u → s.clock < u
+    first_late u e = let r = first_time_waited s.workers u i.numbered.0 e in late r.0 r.1 u r.2 r.3
 
     go : (o : Option ℕ) → first_time s.workers ≡ o → AtRound g s
     go none e = inl (e, λ y. no_first_time s.workers y.0 y.1 y.2 e y.3 y.4)
-    go (some u) e = let l = first-late u e in inr (u, l, e, tick_is g s u e l)
+    go (some u) e = let l = first_late u e in inr (u, l, e, tick_is g s u e l)
 
 -- time goes on: all that can go on now stand before the end of the next round
 module _ (g : Program) (s : System) (k u : ℕ) (es new : List Entry) (i : Good g s (flush k) (round ∷ es))
     (l : s.clock < u) (w : Woken g s.next s (with_clock s u) new) where
-  tick-could-stays : (q : ℕ) → (q ≡ s.next → ⊥) → Could g s q →
+  tick_could_stays : (q : ℕ) → (q ≡ s.next → ⊥) → Could g s q →
       Could g (with_clock s u) q ⊎ (find s.workers q ≡ none)
-  tick-could-stays q d (x, f, c) =
-      still-could g s (with_clock s u) q x (find s.workers q) (omega arith) c
+  tick_could_stays q d (x, f, c) =
+      still_could g s (with_clock s u) q x (find s.workers q) (omega arith) c
       (subst (UndisturbedOrGone x) (sym f) (undisturbed_same x)) refl
 
-  tick-able : (q : ℕ) → Mem (worker q) es → Could g s q
-  tick-able q m = i.exact.able q (Mem-behind round m)
+  tick_able : (q : ℕ) → Mem (worker q) es → Could g s q
+  tick_able q m = i.exact.able q (Mem-behind round m)
 
-  tick-there : (q : ℕ) → Mem (worker q) es → find s.workers q ≡ none → ⊥
-  tick-there q m e = could_not_gone g s q e (tick-able q m)
+  tick_there : (q : ℕ) → Mem (worker q) es → find s.workers q ≡ none → ⊥
+  tick_there q m e = could_not_gone g s q e (tick_able q m)
 
-  next-not-able : Could g s s.next → ⊥
-  next-not-able = nobody_beyond g s i.numbered s.next (omega arith)
+  next_not_able : Could g s s.next → ⊥
+  next_not_able = nobody_beyond g s i.numbered s.next (omega arith)
 
-  next-not-able-later : Could g (with_clock s u) s.next → ⊥
-  next-not-able-later = nobody_beyond g (with_clock s u) i.numbered s.next (omega arith)
+  next_not_able_later : Could g (with_clock s u) s.next → ⊥
+  next_not_able_later = nobody_beyond g (with_clock s u) i.numbered s.next (omega arith)
 
-  tick-once : Distinct (worker s.next ∷ es)
-  tick-once = (λ m. next-not-able (tick-able s.next m), i.exact.once.1)
+  tick_once : Distinct (worker s.next ∷ es)
+  tick_once = (λ m. next_not_able (tick_able s.next m), i.exact.once.1)
 
-  tick-every : (q : ℕ) → Could g s q → Mem (worker q) (worker s.next ∷ es)
-  tick-every q c = Mem-behind (worker s.next) (Mem-worker (i.exact.all q c))
+  tick_every : (q : ℕ) → Could g s q → Mem (worker q) (worker s.next ∷ es)
+  tick_every q c = Mem-behind (worker s.next) (Mem-worker (i.exact.all q c))
 
-  tick-no-round : Mem round (es ++ new) → ⊥
-  tick-no-round m = go (Mem-split es m)
+  tick_no_round : Mem round (es ++ new) → ⊥
+  tick_no_round m = go (Mem-split es m)
     where
       go : Mem round es ⊎ Mem round new → ⊥
       go (inl a) = i.exact.once.0 a
       go (inr b) = let y = w.each round b in let e = y.1 in impossible (cc)
 
-  tick-exact : Queues g (with_clock s u) (flush batch) (es ++ (new ++ (round ∷ [])))
-  tick-exact = exact-ticked g s (with_clock s u) s.next tick-could-stays es es new
-      (kept_whole (with_clock s u) es) tick-there w tick-once tick-able tick-every batch (omega arith)
-      next-not-able-later tick-no-round
+  tick_exact : Queues g (with_clock s u) (flush batch) (es ++ (new ++ (round ∷ [])))
+  tick_exact = exact_ticked g s (with_clock s u) s.next tick_could_stays es es new
+      (kept_whole (with_clock s u) es) tick_there w tick_once tick_able tick_every batch (omega arith)
+      next_not_able_later tick_no_round
 
-  tick-timely : (q : ℕ) → Due (with_clock s u) q → Before (worker q) round (es ++ (new ++ (round ∷ [])))
-  tick-timely q y =
+  tick_timely : (q : ℕ) → Due (with_clock s u) q → Before (worker q) round (es ++ (new ++ (round ∷ [])))
+  tick_timely q y =
       let c = due-could g (with_clock s u) q y in
       subst (Before (worker q) round) (append_assoc es new (round ∷ []))
       (Before_last (worker q) round (es ++ new)
-      (all_after g s (with_clock s u) s.next tick-could-stays es es new (kept_whole (with_clock s u) es)
-      tick-there w tick-once tick-able tick-every q
-      (λ e. next-not-able-later (subst (Could g (with_clock s u)) e c)) c))
+      (all_after g s (with_clock s u) s.next tick_could_stays es es new (kept_whole (with_clock s u) es)
+      tick_there w tick_once tick_able tick_every q
+      (λ e. next_not_able_later (subst (Could g (with_clock s u)) e c)) c))
 
   pub time_goes : Idle s k → move g s tick ≡ is (with_clock s u) →
       Leads g s (flush k) (round ∷ es) (tick ∷ []) (with_clock s u) (flush batch) (es ++ (new ++ (round ∷ [])))
@@ -213,24 +213,24 @@ module _ (g : Program) (s : System) (k u : ℕ) (es new : List Entry) (i : Good 
     by_tick (new ++ (round ∷ [])) idle mv,
     record {
       numbered = i.numbered;
-      exact = tick-exact;
-      timely = tick-timely;
+      exact = tick_exact;
+      timely = tick_timely;
     },
   )
 
 -- nobody waits for a time: the next round
 module _ (g : Program) (s : System) (k : ℕ) (es : List Entry) (i : Good g s (flush k) (round ∷ es)) where
-  round-every : (q : ℕ) → Could g s q → Mem (worker q) es
-  round-every q c = Mem-worker (i.exact.all q c)
+  round_every : (q : ℕ) → Could g s q → Mem (worker q) es
+  round_every q c = Mem-worker (i.exact.all q c)
 
-  round-able : (q : ℕ) → Mem (worker q) (es ++ (round ∷ [])) → Could g s q
-  round-able q m = elim (Mem-split es m) [
+  round_able : (q : ℕ) → Mem (worker q) (es ++ (round ∷ [])) → Could g s q
+  round_able q m = elim (Mem-split es m) [
     | inl a ↦ i.exact.able q (Mem-behind round a)
     | inr b ↦ impossible (cc (Mem-one b))
   ]
 
-  round-once : Distinct (es ++ (round ∷ []))
-  round-once = Distinct-append es (round ∷ []) i.exact.once.1 ((λ m. At-none m.1), tt)
+  round_once : Distinct (es ++ (round ∷ []))
+  round_once = Distinct-append es (round ∷ []) i.exact.once.1 ((λ m. At-none m.1), tt)
       (λ x a b. i.exact.once.0 (subst (λ z. Mem z es) (Mem-one b) a))
 
   pub next_round : Idle s k → (WaitsLater s → ⊥) →
@@ -240,13 +240,13 @@ module _ (g : Program) (s : System) (k : ℕ) (es : List Entry) (i : Good g s (f
     record {
       numbered = i.numbered;
       exact = record {
-        once = round-once;
-        able = round-able;
-        all = λ q c. Mem-left (round ∷ []) (round-every q c);
+        once = round_once;
+        able = round_able;
+        all = λ q c. Mem-left (round ∷ []) (round_every q c);
         rounds = Mem-right es (zero, here);
         small = omega arith;
       };
-      timely = λ q y. Before_last (worker q) round es (round-every q (due-could g s q y));
+      timely = λ q y. Before_last (worker q) round es (round_every q (due-could g s q y));
     },
   )
 

@@ -61,120 +61,120 @@ module _ (g : Program) (k : List Frame) (s : System) (me : ℕ) (w : Scope) (o :
   abbrev Acts : Outcome → Type 0
   Acts x = Act g k s me w o i x
 
-  acts-atom-error : (x : Name) → Acts (error k s x)
-  acts-atom-error x = acts_error (v_atom x)
+  acts_atom_error : (x : Name) → Acts (error k s x)
+  acts_atom_error x = acts_error (v_atom x)
 
-  acts-gives : (v : Value) → Acts (gives k s v)
-  acts-gives v = acts_value v nothing
+  acts_gives : (v : Value) → Acts (gives k s v)
+  acts_gives v = acts_value v nothing
 
-  acts-number : (n : ℤ) → Acts (number k s n)
-  acts-number n = cond_all Acts (fits n) (gives k s (v_int n)) (error k s a_big) (λ h. acts-gives (v_int n))
-      (λ h. acts-atom-error a_big)
+  acts_number : (n : ℤ) → Acts (number k s n)
+  acts_number n = cond_all Acts (fits n) (gives k s (v_int n)) (error k s a_big) (λ h. acts_gives (v_int n))
+      (λ h. acts_atom_error a_big)
 
-  acts-divided : (b q : ℤ) → Acts (divided k s b q)
-  acts-divided b q = cond_all Acts (is_zero b) (error k s a_zero) (number k s q) (λ h. acts-atom-error a_zero)
-      (λ h. acts-number q)
+  acts_divided : (b q : ℤ) → Acts (divided k s b q)
+  acts_divided b q = cond_all Acts (is_zero b) (error k s a_zero) (number k s q) (λ h. acts_atom_error a_zero)
+      (λ h. acts_number q)
 
-  acts-on-numbers : (u v : Value) (f : ℤ → ℤ → Outcome) → ((a b : ℤ) → Acts (f a b)) → Acts (on_numbers k s u v f)
-  acts-on-numbers u v f h = opt_all Acts (as_int u) (error k s a_type)
-      (λ a. opt (as_int v) (error k s a_type) (λ b. f a b)) (λ e. acts-atom-error a_type)
-      (λ a e. opt_all Acts (as_int v) (error k s a_type) (λ b. f a b) (λ d. acts-atom-error a_type) (λ b d. h a b))
+  acts_on_numbers : (u v : Value) (f : ℤ → ℤ → Outcome) → ((a b : ℤ) → Acts (f a b)) → Acts (on_numbers k s u v f)
+  acts_on_numbers u v f h = opt_all Acts (as_int u) (error k s a_type)
+      (λ a. opt (as_int v) (error k s a_type) (λ b. f a b)) (λ e. acts_atom_error a_type)
+      (λ a e. opt_all Acts (as_int v) (error k s a_type) (λ b. f a b) (λ d. acts_atom_error a_type) (λ b d. h a b))
 
-  acts-operate : (p : Operator) (u v : Value) → Acts (operate_on k s p u v)
-  acts-operate plus u v = acts-on-numbers u v _ (λ a b. acts-number (a +ℤ b))
-  acts-operate minus u v = acts-on-numbers u v _ (λ a b. acts-number (a -ℤ b))
-  acts-operate times u v = acts-on-numbers u v _ (λ a b. acts-number (a *ℤ b))
-  acts-operate divide u v = acts-on-numbers u v _ (λ a b. acts-divided b (quotient a b))
-  acts-operate modulo u v = acts-on-numbers u v _ (λ a b. acts-divided b (remainder a b))
-  acts-operate equal u v = acts-gives (truth (same_v u v))
-  acts-operate unequal u v = acts-gives (truth (not (same_v u v)))
-  acts-operate less u v = acts-on-numbers u v _ (λ a b. acts-gives (truth (less_int a b)))
-  acts-operate at_most u v = acts-on-numbers u v _ (λ a b. acts-gives (truth (not (less_int b a))))
+  acts_operate : (p : Operator) (u v : Value) → Acts (operate_on k s p u v)
+  acts_operate plus u v = acts_on_numbers u v _ (λ a b. acts_number (a +ℤ b))
+  acts_operate minus u v = acts_on_numbers u v _ (λ a b. acts_number (a -ℤ b))
+  acts_operate times u v = acts_on_numbers u v _ (λ a b. acts_number (a *ℤ b))
+  acts_operate divide u v = acts_on_numbers u v _ (λ a b. acts_divided b (quotient a b))
+  acts_operate modulo u v = acts_on_numbers u v _ (λ a b. acts_divided b (remainder a b))
+  acts_operate equal u v = acts_gives (truth (same_v u v))
+  acts_operate unequal u v = acts_gives (truth (not (same_v u v)))
+  acts_operate less u v = acts_on_numbers u v _ (λ a b. acts_gives (truth (less_int a b)))
+  acts_operate at_most u v = acts_on_numbers u v _ (λ a b. acts_gives (truth (not (less_int b a))))
 
   -- what takes a worker or an atom fails on anything else
-  acts-opt : {A : Type 0} (x : Option A) (f : A → Outcome) → ((a : A) → Acts (f a)) →
+  acts_opt : {A : Type 0} (x : Option A) (f : A → Outcome) → ((a : A) → Acts (f a)) →
       Acts (opt x (error k s a_type) f)
-  acts-opt x f h = opt_all Acts x (error k s a_type) f (λ e. acts-atom-error a_type) (λ a e. h a)
+  acts_opt x f h = opt_all Acts x (error k s a_type) f (λ e. acts_atom_error a_type) (λ a e. h a)
 
-  acts-link-found : (q : ℕ) (x : Option Worker) → find s.workers q ≡ x → (q ≡ me → ⊥) →
+  acts_link_found : (q : ℕ) (x : Option Worker) → find s.workers q ≡ x → (q ≡ me → ⊥) →
       Acts (link_found k s me q x)
-  acts-link-found q none e h = acts_value (v_atom a_ok) (linked_gone q h e)
-  acts-link-found q (some x) e h = acts_value (v_atom a_ok) (linked q x h e)
+  acts_link_found q none e h = acts_value (v_atom a_ok) (linked_gone q h e)
+  acts_link_found q (some x) e h = acts_value (v_atom a_ok) (linked q x h e)
 
-  acts-link : (v : Value) → Acts (link_to k s me v)
-  acts-link v = acts-opt (as_pid v)
+  acts_link : (v : Value) → Acts (link_to k s me v)
+  acts_link v = acts_opt (as_pid v)
       (λ q. cond (eqb q me) (gives k s (v_atom a_ok)) (link_found k s me q (find s.workers q)))
       (λ q. cond_all Acts (eqb q me) (gives k s (v_atom a_ok)) (link_found k s me q (find s.workers q))
-      (λ e. acts-gives (v_atom a_ok)) (λ e. acts-link-found q (find s.workers q) refl (eqb_isnt q me e)))
+      (λ e. acts_gives (v_atom a_ok)) (λ e. acts_link_found q (find s.workers q) refl (eqb_isnt q me e)))
 
-  acts-after-swap : (x : Name) (m : ℕ) (y : Option Worker) → find (swapped s x m).workers me ≡ y →
+  acts_after_swap : (x : Name) (m : ℕ) (y : Option Worker) → find (swapped s x m).workers me ≡ y →
       current s.loaded x ≡ some m →
       Acts (opt y (leaves (swapped s x m)) (λ z. gives k (swapped s x m) (v_atom a_ok)))
-  acts-after-swap x m none e h = acts_swapped_out x m h e
-  acts-after-swap x m (some y) e h = acts_swap x m (v_atom a_ok) y h e
+  acts_after_swap x m none e h = acts_swapped_out x m h e
+  acts_after_swap x m (some y) e h = acts_swap x m (v_atom a_ok) y h e
 
-  acts-swap-module : (x : Name) → Acts (swap_module g k s me x)
-  acts-swap-module x = opt_all Acts (current s.loaded x) (error k s a_undef)
+  acts_swap_module : (x : Name) → Acts (swap_module g k s me x)
+  acts_swap_module x = opt_all Acts (current s.loaded x) (error k s a_undef)
       (λ n. opt (functions_of g x (n + 1)) (gives k s (v_atom a_none)) (λ fs. after_swap k me (swapped s x n)))
-      (λ h. acts-atom-error a_undef)
+      (λ h. acts_atom_error a_undef)
       (λ n h. opt_all Acts (functions_of g x (n + 1)) (gives k s (v_atom a_none))
-      (λ fs. after_swap k me (swapped s x n)) (λ e. acts-gives (v_atom a_none))
-      (λ fs e. acts-after-swap x n (find (swapped s x n).workers me) refl h))
+      (λ fs. after_swap k me (swapped s x n)) (λ e. acts_gives (v_atom a_none))
+      (λ fs e. acts_after_swap x n (find (swapped s x n).workers me) refl h))
 
-  acts-with-none : (b : Builtin) → Acts (with_none k s me b)
-  acts-with-none send = acts-atom-error a_undef
-  acts-with-none self = acts-gives (v_pid me)
-  acts-with-none link = acts-atom-error a_undef
-  acts-with-none exit = acts-atom-error a_undef
-  acts-with-none trap = acts-atom-error a_undef
-  acts-with-none show = acts-atom-error a_undef
-  acts-with-none register = acts-atom-error a_undef
-  acts-with-none whereis = acts-atom-error a_undef
-  acts-with-none swap = acts-atom-error a_undef
+  acts_with_none : (b : Builtin) → Acts (with_none k s me b)
+  acts_with_none send = acts_atom_error a_undef
+  acts_with_none self = acts_gives (v_pid me)
+  acts_with_none link = acts_atom_error a_undef
+  acts_with_none exit = acts_atom_error a_undef
+  acts_with_none trap = acts_atom_error a_undef
+  acts_with_none show = acts_atom_error a_undef
+  acts_with_none register = acts_atom_error a_undef
+  acts_with_none whereis = acts_atom_error a_undef
+  acts_with_none swap = acts_atom_error a_undef
 
-  acts-with-one : (b : Builtin) (v : Value) → Acts (with_one g k s me b v)
-  acts-with-one send v = acts-atom-error a_undef
-  acts-with-one self v = acts-atom-error a_undef
-  acts-with-one link v = acts-link v
-  acts-with-one exit v = acts_error v
-  acts-with-one trap v = acts_value (v_atom a_ok) (trapped (same_v v (v_atom a_true)))
-  acts-with-one show v = acts_value v (showed (text_v v))
-  acts-with-one register v = acts-opt (as_atom v) (λ x. gives k (with_name s x me) (v_atom a_ok))
+  acts_with_one : (b : Builtin) (v : Value) → Acts (with_one g k s me b v)
+  acts_with_one send v = acts_atom_error a_undef
+  acts_with_one self v = acts_atom_error a_undef
+  acts_with_one link v = acts_link v
+  acts_with_one exit v = acts_error v
+  acts_with_one trap v = acts_value (v_atom a_ok) (trapped (same_v v (v_atom a_true)))
+  acts_with_one show v = acts_value v (showed (text_v v))
+  acts_with_one register v = acts_opt (as_atom v) (λ x. gives k (with_name s x me) (v_atom a_ok))
       (λ x. acts_value (v_atom a_ok) (named x))
-  acts-with-one whereis v = acts-opt (as_atom v) (λ x. gives k s (opt (pid_of s.names x) (v_atom a_none) v_pid))
-      (λ x. acts-gives (opt (pid_of s.names x) (v_atom a_none) v_pid))
-  acts-with-one swap v = acts-opt (as_atom v) (swap_module g k s me) acts-swap-module
+  acts_with_one whereis v = acts_opt (as_atom v) (λ x. gives k s (opt (pid_of s.names x) (v_atom a_none) v_pid))
+      (λ x. acts_gives (opt (pid_of s.names x) (v_atom a_none) v_pid))
+  acts_with_one swap v = acts_opt (as_atom v) (swap_module g k s me) acts_swap_module
 
-  acts-with-two : (b : Builtin) (u v : Value) → Acts (with_two k s me b u v)
-  acts-with-two send u v = acts-opt (target s u) (λ q. gives k (on_worker s q (add_mail v)) v)
+  acts_with_two : (b : Builtin) (u v : Value) → Acts (with_two k s me b u v)
+  acts_with_two send u v = acts_opt (target s u) (λ q. gives k (on_worker s q (add_mail v)) v)
       (λ q. acts_value v (sent q v))
-  acts-with-two self u v = acts-atom-error a_undef
-  acts-with-two link u v = acts-atom-error a_undef
-  acts-with-two exit u v = acts-opt (as_pid u)
+  acts_with_two self u v = acts_atom_error a_undef
+  acts_with_two link u v = acts_atom_error a_undef
+  acts_with_two exit u v = acts_opt (as_pid u)
       (λ q. gives k (with_signals s (s.signals ++ (record { to = q; from = me; reason = v } ∷ []))) (v_atom a_ok))
       (λ q. acts_value (v_atom a_ok) (exited q v))
-  acts-with-two trap u v = acts-atom-error a_undef
-  acts-with-two show u v = acts-atom-error a_undef
-  acts-with-two register u v = acts-atom-error a_undef
-  acts-with-two whereis u v = acts-atom-error a_undef
-  acts-with-two swap u v = acts-atom-error a_undef
+  acts_with_two trap u v = acts_atom_error a_undef
+  acts_with_two show u v = acts_atom_error a_undef
+  acts_with_two register u v = acts_atom_error a_undef
+  acts_with_two whereis u v = acts_atom_error a_undef
+  acts_with_two swap u v = acts_atom_error a_undef
 
-  acts-builtin : (b : Builtin) (vs : List Value) → Acts (call_builtin g k s me b vs)
-  acts-builtin b [] = acts-with-none b
-  acts-builtin b (v ∷ []) = acts-with-one b v
-  acts-builtin b (u ∷ v ∷ []) = acts-with-two b u v
-  acts-builtin b (u ∷ v ∷ x ∷ vs) = acts-atom-error a_undef
+  acts_builtin : (b : Builtin) (vs : List Value) → Acts (call_builtin g k s me b vs)
+  acts_builtin b [] = acts_with_none b
+  acts_builtin b (v ∷ []) = acts_with_one b v
+  acts_builtin b (u ∷ v ∷ []) = acts_with_two b u v
+  acts_builtin b (u ∷ v ∷ x ∷ vs) = acts_atom_error a_undef
 
-  acts-call-code : (x : Option Control) → ((c : Control) → x ≡ some c → From g s w c) → Acts (call_code k s x)
-  acts-call-code none h = acts-atom-error a_undef
-  acts-call-code (some c) h = acts_call c (h c refl)
+  acts_call_code : (x : Option Control) → ((c : Control) → x ≡ some c → From g s w c) → Acts (call_code k s x)
+  acts_call_code none h = acts_atom_error a_undef
+  acts_call_code (some c) h = acts_call c (h c refl)
 
-  acts-spawn-code : (x : Option Control) → ((c : Control) → x ≡ some c → From g s w c) → Acts (spawn_code k s x)
-  acts-spawn-code none h = acts-atom-error a_undef
-  acts-spawn-code (some c) h = acts_value (v_pid s.next) (spawned c (h c refl))
+  acts_spawn_code : (x : Option Control) → ((c : Control) → x ≡ some c → From g s w c) → Acts (spawn_code k s x)
+  acts_spawn_code none h = acts_atom_error a_undef
+  acts_spawn_code (some c) h = acts_value (v_pid s.next) (spawned c (h c refl))
 
-  from-current : (m f : Name) (vs : List Value) (c : Control) → enter_current g s m f vs ≡ some c → From g s w c
-  from-current m f vs c e =
+  from_current : (m f : Name) (vs : List Value) (c : Control) → enter_current g s m f vs ≡ some c → From g s w c
+  from_current m f vs c e =
       let r = on_some_is (current s.loaded m) (λ n. enter_function g m n f vs) c e in
       other m r.0 f vs r.1 r.2
 
@@ -193,19 +193,19 @@ perform_view g k s me w make_tuple vs = acts_value (v_tuple (tuple vs)) nothing
 perform_view g k s me w make_pair vs = acts_on_two g k s me w make_pair vs (λ a b. gives k s (v_cons a b)) (λ n h. h)
     (λ a b. acts_value (v_cons a b) nothing)
 perform_view g k s me w (call f) vs =
-    acts-call-code g k s me w (call f) (length vs) (enter_function g w.home w.version f vs) (λ c e. own f vs e)
+    acts_call_code g k s me w (call f) (length vs) (enter_function g w.home w.version f vs) (λ c e. own f vs e)
 perform_view g k s me w (far_call m f) vs =
-    acts-call-code g k s me w (far_call m f) (length vs) (enter_current g s m f vs)
-    (from-current g k s me w (far_call m f) (length vs) m f vs)
+    acts_call_code g k s me w (far_call m f) (length vs) (enter_current g s m f vs)
+    (from_current g k s me w (far_call m f) (length vs) m f vs)
 perform_view g k s me w (spawn f) vs =
-    acts-spawn-code g k s me w (spawn f) (length vs) (enter_function g w.home w.version f vs)
+    acts_spawn_code g k s me w (spawn f) (length vs) (enter_function g w.home w.version f vs)
     (λ c e. own f vs e)
 perform_view g k s me w (far_spawn m f) vs =
-    acts-spawn-code g k s me w (far_spawn m f) (length vs) (enter_current g s m f vs)
-    (from-current g k s me w (far_spawn m f) (length vs) m f vs)
+    acts_spawn_code g k s me w (far_spawn m f) (length vs) (enter_current g s m f vs)
+    (from_current g k s me w (far_spawn m f) (length vs) m f vs)
 perform_view g k s me w (operate p) vs = acts_on_two g k s me w (operate p) vs (operate_on k s p)
-    (λ n h. h) (acts-operate g k s me w (operate p) 2 p)
-perform_view g k s me w (built_in b) vs = acts-builtin g k s me w (built_in b) (length vs) b vs
+    (λ n h. h) (acts_operate g k s me w (operate p) 2 p)
+perform_view g k s me w (built_in b) vs = acts_builtin g k s me w (built_in b) (length vs) b vs
 
 -- the turn as a whole
 turned_act : (g : Program) (k : List Frame) (s : System) (me : Worker) (w : Scope) (o : Operation) (n : ℕ)
@@ -238,14 +238,14 @@ module _ (g : Program) (s : System) (me : Worker) where
   turned-evaluate (receive_until cs e b) w r = turn_goes (eval e w) (until_frame cs b w ∷ me.frames) w nothing
   turned-evaluate (catch b) w r = turn_goes (enter b w) (catch_frame ∷ me.frames) w nothing
 
-  turned-body : (b : Body) (w : Scope) → Turned g s me (begin_body me.frames s b w)
-  turned-body (last e) w = turn_goes (eval e w) me.frames w nothing
-  turned-body (bind p e b) w = turn_goes (eval e w) (bind_frame p b w ∷ me.frames) w nothing
+  turned_body : (b : Body) (w : Scope) → Turned g s me (begin_body me.frames s b w)
+  turned_body (last e) w = turn_goes (eval e w) me.frames w nothing
+  turned_body (bind p e b) w = turn_goes (eval e w) (bind_frame p b w ∷ me.frames) w nothing
 
-  turned-until : (k : List Frame) (cs : Clauses) (b : Body) (w : Scope) (n : ℤ) →
+  turned_until : (k : List Frame) (cs : Clauses) (b : Body) (w : Scope) (n : ℤ) →
       Turned g s me (wait_until k s cs b w n)
-  turned-until k cs b w (pos n) = turn_goes (wait cs (until (s.clock + n) b) w) k w nothing
-  turned-until k cs b w (negsuc n) = turn_goes (fail (v_atom a_type)) k w nothing
+  turned_until k cs b w (pos n) = turn_goes (wait cs (until (s.clock + n) b) w) k w nothing
+  turned_until k cs b w (negsuc n) = turn_goes (fail (v_atom a_type)) k w nothing
 
   -- where no code is at work
   nowhere : Scope
@@ -263,7 +263,7 @@ module _ (g : Program) (s : System) (me : Worker) where
       (λ c h. turn_goes (enter c.body (rebind w c.vars)) k w nothing)
   turned-resume v (until_frame cs b w ∷ k) r =
       opt_all (Turned g s me) (as_int v) (error k s a_type) (wait_until k s cs b w)
-      (λ h. turn_goes (fail (v_atom a_type)) k w nothing) (λ n h. turned-until k cs b w n)
+      (λ h. turn_goes (fail (v_atom a_type)) k w nothing) (λ n h. turned_until k cs b w n)
   turned-resume v (catch_frame ∷ k) r = turn_goes (give (pair (v_atom a_ok) v)) k nowhere nothing
 
   turned-unwind : (e : Value) (k : List Frame) → end_reason me.control me.frames ≡ end_reason (fail e) k →
@@ -275,25 +275,25 @@ module _ (g : Program) (s : System) (me : Worker) where
   turned-unwind e (until_frame cs b w ∷ k) r = turn_goes (fail e) k w nothing
   turned-unwind e (catch_frame ∷ k) r = turn_goes (give (pair (v_atom a_error) e)) k nowhere nothing
 
-  turned-timed-out : (u : Until) (w : Scope) → OnSome (Turned g s me) (timed_out s me.frames u w)
-  turned-timed-out for_ever w = tt
-  turned-timed-out (until t b) w =
+  turned_timed_out : (u : Until) (w : Scope) → OnSome (Turned g s me) (timed_out s me.frames u w)
+  turned_timed_out for_ever w = tt
+  turned_timed_out (until t b) w =
       cond_all (OnSome (Turned g s me)) (leb t s.clock) (some (goes_on (enter b w) me.frames s)) none
       (λ h. turn_goes (enter b w) me.frames w nothing) (λ h. tt)
 
-  turned-with : (c : Control) → me.control ≡ c → OnSome (Turned g s me) (turn_with g s me c)
-  turned-with (eval e w) i = turned-evaluate e w (ap (λ (z : Control). end_reason z me.frames) i)
-  turned-with (give v) i = turned-resume v me.frames (ap (λ (z : Control). end_reason z me.frames) i)
-  turned-with (enter b w) i = turned-body b w
-  turned-with (fail e) i = turned-unwind e me.frames (ap (λ (z : Control). end_reason z me.frames) i)
-  turned-with (wait cs u w) i = opt_all (OnSome (Turned g s me)) (take_first cs w.vars me.mail)
+  turned_with : (c : Control) → me.control ≡ c → OnSome (Turned g s me) (turn_with g s me c)
+  turned_with (eval e w) i = turned-evaluate e w (ap (λ (z : Control). end_reason z me.frames) i)
+  turned_with (give v) i = turned-resume v me.frames (ap (λ (z : Control). end_reason z me.frames) i)
+  turned_with (enter b w) i = turned_body b w
+  turned_with (fail e) i = turned-unwind e me.frames (ap (λ (z : Control). end_reason z me.frames) i)
+  turned_with (wait cs u w) i = opt_all (OnSome (Turned g s me)) (take_first cs w.vars me.mail)
       (timed_out s me.frames u w) (λ t. some
       (goes_on (enter t.chosen.body (rebind w t.chosen.vars)) me.frames
-      (on_worker s me.pid (set_mail t.rest)))) (λ h. turned-timed-out u w)
+      (on_worker s me.pid (set_mail t.rest)))) (λ h. turned_timed_out u w)
       (λ t h. turn_goes (enter t.chosen.body (rebind w t.chosen.vars)) me.frames w (took t.rest))
 
-  pub turn-view : OnSome (Turned g s me) (turn_of g s me)
-  turn-view = turned-with me.control refl
+  pub turn_view : OnSome (Turned g s me) (turn_of g s me)
+  turn_view = turned_with me.control refl
 
 -- code that begins is the body of a function, in the module and version asked for
 pub entered_is : (g : Program) (m : Name) (n : ℕ) (f : Name) (vs : List Value) (c : Control) →

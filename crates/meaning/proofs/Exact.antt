@@ -19,8 +19,8 @@ module _ (g : Program) (s t : System) (n : ℕ) (keeps' : (q : ℕ) → (q ≡ n
     (not_dead : (q : ℕ) → Mem (worker q) fs → find t.workers q ≡ none → ⊥) (w : Woken g n s t new)
     (once : Distinct (worker n ∷ es)) (able : (q : ℕ) → Mem (worker q) es → Could g s q)
     (all : (q : ℕ) → Could g s q → Mem (worker q) (worker n ∷ es)) where
-  other-than : (q : ℕ) → Mem (worker q) es → q ≡ n → ⊥
-  other-than q m e = once.0 (subst (λ z. Mem (worker z) es) e m)
+  other_than : (q : ℕ) → Mem (worker q) es → q ≡ n → ⊥
+  other_than q m e = once.0 (subst (λ z. Mem (worker z) es) e m)
 
   pub able-after : (q : ℕ) → Mem (worker q) (fs ++ new) → (q ≡ n → ⊥) × Could g t q
   able-after q m = go (Mem-split fs m)
@@ -32,7 +32,7 @@ module _ (g : Program) (s t : System) (n : ℕ) (keeps' : (q : ℕ) → (q ≡ n
       go : Mem (worker q) fs ⊎ Mem (worker q) new → (q ≡ n → ⊥) × Could g t q
       go (inl a) =
           let b = kept_from kept (worker q) a in
-          (other-than q b, old a (keeps' q (other-than q b) (able q b)))
+          (other_than q b, old a (keeps' q (other_than q b) (able q b)))
       go (inr a) =
           let b = w.each (worker q) a in
           let e : b.0 ≡ q = cc b.1 in
@@ -53,12 +53,12 @@ module _ (g : Program) (s t : System) (n : ℕ) (keeps' : (q : ℕ) → (q ≡ n
       go (inl a) = Mem-left new (kept_mem (worker q) (λ e. could_not_gone g t q e c) kept (mem (Mem-cases (all q a))))
       go (inr a) = Mem-right fs a
 
-  own-not-queued : Mem (worker n) (fs ++ new) → ⊥
-  own-not-queued m = (able-after n m).0 refl
+  own_not_queued : Mem (worker n) (fs ++ new) → ⊥
+  own_not_queued m = (able-after n m).0 refl
 
-  pub exact-served : (k : ℕ) → k ≤ slice → Could g t n → Mem round (fs ++ new) → Queues g t (serve n k) (fs ++ new)
-  exact-served k le c r = record {
-    once = (own-not-queued, once_after);
+  pub exact_served : (k : ℕ) → k ≤ slice → Could g t n → Mem round (fs ++ new) → Queues g t (serve n k) (fs ++ new)
+  exact_served k le c r = record {
+    once = (own_not_queued, once_after);
     able = λ q m. a q (Mem-cases m);
     all = λ q d. b q d (equal_or_not q n);
     rounds = r;
@@ -73,8 +73,8 @@ module _ (g : Program) (s t : System) (n : ℕ) (keeps' : (q : ℕ) → (q ≡ n
       b q d (inl e) = (zero, subst (λ z. At (worker q) zero (worker z ∷ (fs ++ new))) e here)
       b q d (inr f) = Mem-behind (worker n) (all_after q f d)
 
-  pub exact-over : (k : ℕ) → k ≤ batch → (Could g t n → ⊥) → Mem round (fs ++ new) → Queues g t (flush k) (fs ++ new)
-  exact-over k le c r = record {
+  pub exact_over : (k : ℕ) → k ≤ batch → (Could g t n → ⊥) → Mem round (fs ++ new) → Queues g t (flush k) (fs ++ new)
+  exact_over k le c r = record {
     once = once_after;
     able = λ q m. (able-after q m).1;
     all = λ q d. all_after q (λ e. c (subst (Could g t) e d)) d;
@@ -82,30 +82,30 @@ module _ (g : Program) (s t : System) (n : ℕ) (keeps' : (q : ℕ) → (q ≡ n
     small = le;
   }
 
-  at-the-end : (x : Entry) → Distinct (fs ++ new) → (Mem x (fs ++ new) → ⊥) → Distinct (fs ++ (new ++ (x ∷ [])))
-  at-the-end x d h = subst Distinct (append_assoc fs new (x ∷ []))
+  at_the_end : (x : Entry) → Distinct (fs ++ new) → (Mem x (fs ++ new) → ⊥) → Distinct (fs ++ (new ++ (x ∷ [])))
+  at_the_end x d h = subst Distinct (append_assoc fs new (x ∷ []))
       (Distinct-append (fs ++ new) (x ∷ []) d ((λ m. At-none m.1), tt)
       (λ y a b. h (subst (λ z. Mem z (fs ++ new)) (Mem-one b) a)))
 
-  pub before-end : (x y : Entry) → Mem y (fs ++ (new ++ (x ∷ []))) → Mem y (fs ++ new) ⊎ (y ≡ x)
-  before-end x y m = elim (Mem-split (fs ++ new) (subst (Mem y) (sym (append_assoc fs new (x ∷ []))) m)) [
+  pub before_end : (x y : Entry) → Mem y (fs ++ (new ++ (x ∷ []))) → Mem y (fs ++ new) ⊎ (y ≡ x)
+  before_end x y m = elim (Mem-split (fs ++ new) (subst (Mem y) (sym (append_assoc fs new (x ∷ []))) m)) [
     | inl a ↦ inl a
     | inr b ↦ inr (Mem-one b)
   ]
 
-  pub kept-before-end : (x y : Entry) → Mem y (fs ++ new) → Mem y (fs ++ (new ++ (x ∷ [])))
-  kept-before-end x y m = subst (Mem y) (append_assoc fs new (x ∷ [])) (Mem-left (x ∷ []) m)
+  pub kept_before_end : (x y : Entry) → Mem y (fs ++ new) → Mem y (fs ++ (new ++ (x ∷ [])))
+  kept_before_end x y m = subst (Mem y) (append_assoc fs new (x ∷ [])) (Mem-left (x ∷ []) m)
 
-  pub end-queued : (x : Entry) → Mem x (fs ++ (new ++ (x ∷ [])))
-  end-queued x = Mem-right fs (Mem-right new (zero, here))
+  pub end_queued : (x : Entry) → Mem x (fs ++ (new ++ (x ∷ [])))
+  end_queued x = Mem-right fs (Mem-right new (zero, here))
 
-  pub exact-back : (k : ℕ) → k ≤ batch → Could g t n → Mem round (fs ++ new) →
+  pub exact_back : (k : ℕ) → k ≤ batch → Could g t n → Mem round (fs ++ new) →
       Queues g t (flush k) (fs ++ (new ++ (worker n ∷ [])))
-  exact-back k le c r = record {
-    once = at-the-end (worker n) once_after own-not-queued;
-    able = λ q m. a q (before-end (worker n) (worker q) m);
+  exact_back k le c r = record {
+    once = at_the_end (worker n) once_after own_not_queued;
+    able = λ q m. a q (before_end (worker n) (worker q) m);
     all = λ q d. b q d (equal_or_not q n);
-    rounds = kept-before-end (worker n) round r;
+    rounds = kept_before_end (worker n) round r;
     small = le;
   }
     where
@@ -114,16 +114,16 @@ module _ (g : Program) (s t : System) (n : ℕ) (keeps' : (q : ℕ) → (q ≡ n
       a q (inr e) = let y : n ≡ q = cc in subst (Could g t) y c
 
       b : (q : ℕ) → Could g t q → (q ≡ n) ⊎ (q ≡ n → ⊥) → Mem (worker q) (fs ++ (new ++ (worker n ∷ [])))
-      b q d (inl e) = subst (λ z. Mem (worker z) (fs ++ (new ++ (worker n ∷ [])))) (sym e) (end-queued (worker n))
-      b q d (inr f) = kept-before-end (worker n) (worker q) (all_after q f d)
+      b q d (inl e) = subst (λ z. Mem (worker z) (fs ++ (new ++ (worker n ∷ [])))) (sym e) (end_queued (worker n))
+      b q d (inr f) = kept_before_end (worker n) (worker q) (all_after q f d)
 
-  pub exact-ticked : (k : ℕ) → k ≤ batch → (Could g t n → ⊥) → (Mem round (fs ++ new) → ⊥) →
+  pub exact_ticked : (k : ℕ) → k ≤ batch → (Could g t n → ⊥) → (Mem round (fs ++ new) → ⊥) →
       Queues g t (flush k) (fs ++ (new ++ (round ∷ [])))
-  exact-ticked k le c r = record {
-    once = at-the-end round once_after r;
-    able = λ q m. a q (before-end round (worker q) m);
-    all = λ q d. kept-before-end round (worker q) (all_after q (λ e. c (subst (Could g t) e d)) d);
-    rounds = end-queued round;
+  exact_ticked k le c r = record {
+    once = at_the_end round once_after r;
+    able = λ q m. a q (before_end round (worker q) m);
+    all = λ q d. kept_before_end round (worker q) (all_after q (λ e. c (subst (Could g t) e d)) d);
+    rounds = end_queued round;
     small = le;
   }
     where

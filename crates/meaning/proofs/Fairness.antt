@@ -16,7 +16,7 @@ use Rattle.meaning.specs.Scheduler.{Entry, round, worker, Mode, serve, flush, ba
 use Rattle.meaning.specs.Scheduler.{Idle, After, same_slice, slice_over, Step, by_turn, by_signal, by_tick, by_round}
 use Rattle.meaning.specs.Scheduler.{by_pop, Steps, start, and_step}
 use Rattle.meaning.specs.Rounds.{FairAlways}
-use Rattle.meaning.proofs.Queue.{At-cases, At_append, At-length, kept, queue-bounded, Stays, Mem-cases}
+use Rattle.meaning.proofs.Queue.{At-cases, At-append, At-length, kept, queue_bounded, Stays, Mem-cases}
 use Rattle.meaning.proofs.Queue.{could_not_gone}
 use Rattle.meaning.proofs.Splits.{impossible}
 
@@ -41,12 +41,12 @@ moves_until m n = moves_left m + 3072 * n
 moves_until_bounded : (g : Program) (s : System) (m : Mode) (es : List Entry) (x : Entry) (n : ℕ) → Queues g s m es →
     At x n es → 1 + moves_until m n ≤ 4096 * (1 + able g s s.workers)
 moves_until_bounded g s (serve p k) es x n i a =
-    let h = queue-bounded g s s.workers (worker p ∷ es) i.once i.able in
+    let h = queue_bounded g s s.workers (worker p ∷ es) i.once i.able in
     let j = At-length a in
     let y = i.small in
     omega arith
 moves_until_bounded g s (flush k) es x n i a =
-    let h = queue-bounded g s s.workers es i.once i.able in
+    let h = queue_bounded g s s.workers es i.once i.able in
     let j = At-length a in
     let y = i.small in
     omega arith
@@ -109,24 +109,24 @@ step_nearer g s {s' = s'} x n (by_turn {p = p} {k = k} {m = m'} {es = es} {fs = 
   where
     go : {m' : Mode} → (j : ℕ) × (j ≤ n) × At x j fs → After p k m' →
         NearerBy (serve p (suc k)) x n (turn p ∷ []) m' (fs ++ new)
-    go (j, le, b) same_slice = (j, At_append new b, omega arith)
-    go (j, le, b) slice_over = (j, At_append new b, omega arith)
+    go (j, le, b) same_slice = (j, At-append new b, omega arith)
+    go (j, le, b) slice_over = (j, At-append new b, omega arith)
 step_nearer g s {s' = s'} x n (by_signal {k = k} {es = es} {fs = fs} new e r) c a = inl (go (kept x n c r a))
   where
     go : (j : ℕ) × (j ≤ n) × At x j fs → NearerBy (flush (suc k)) x n (signal ∷ []) (flush k) (fs ++ new)
-    go (j, le, b) = (j, At_append new b, omega arith)
+    go (j, le, b) = (j, At-append new b, omega arith)
 step_nearer g s x n (by_tick {k = k} {es = es} new i e) c a = go (At-cases a)
   where
     go : (x ≡ round) ⊎ ((j : ℕ) × (n ≡ suc j) × At x j es) →
         NearerBy (flush k) x n (tick ∷ []) (flush batch) (es ++ new) ⊎ Served x (tick ∷ []) s (flush batch)
     go (inl d) = inr (subst (λ z. Served z (tick ∷ []) s (flush batch)) (sym d) (inl refl))
-    go (inr (j, d, b)) = inl (j, At_append new b, omega arith)
+    go (inr (j, d, b)) = inl (j, At-append new b, omega arith)
 step_nearer g s x n (by_round {k = k} {es = es} i f) c a = go (At-cases a)
   where
     go : (x ≡ round) ⊎ ((j : ℕ) × (n ≡ suc j) × At x j es) →
         NearerBy (flush k) x n [] (flush batch) (es ++ (round ∷ [])) ⊎ Served x [] s (flush batch)
     go (inl d) = inr (subst (λ z. Served z [] s (flush batch)) (sym d) (inr (refl, f)))
-    go (inr (j, d, b)) = inl (j, At_append (round ∷ []) b, omega arith)
+    go (inr (j, d, b)) = inl (j, At-append (round ∷ []) b, omega arith)
 step_nearer g s x n (by_pop {k = k} {p = p} t {es = es} i h) c a = go (At-cases a)
   where
     go : (x ≡ worker p) ⊎ ((j : ℕ) × (n ≡ suc j) × At x j es) → NearerBy (flush k) x n [] (serve p t) es
@@ -280,12 +280,12 @@ abbrev Short : Program → System → List Move → Type 0
 Short g t b = length b ≤ 4096 * (1 + able g t t.workers)
 
 module _ (g : Program) (t : System) (es : List Entry) (b : List Move) where
-  turn-in-time : (q : ℕ) (m : Mode) → Queues g t m es → Runs g t m es b → AllThrough g t b (λ v. Could g v q) →
+  turn_in_time : (q : ℕ) (m : Mode) → Queues g t m es → Runs g t m es b → AllThrough g t b (λ v. Could g v q) →
       (In (turn q) b → ⊥) → Short g t b
-  turn-in-time q m i r all f = go m i r (i.all q (all_through_now g t b (λ v. Could g v q) all))
+  turn_in_time q m i r all f = go m i r (i.all q (all_through_now g t b (λ v. Could g v q) all))
     where
-      queued-there : (m : Mode) → Queues g t m es → Runs g t m es b → Mem (worker q) es → Short g t b
-      queued-there m i r (n, a) =
+      queued_there : (m : Mode) → Queues g t m es → Runs g t m es b → Mem (worker q) es → Short g t b
+      queued_there m i r (n, a) =
           let le = stretch_short g (λ v. Could g v q) (turn q) (PlaceIn (worker q)) (turn_nears g q)
           (moves_until m n) r (n, a, omega arith) all f in
           let y = moves_until_bounded g t m es (worker q) n i a in
@@ -297,24 +297,24 @@ module _ (g : Program) (t : System) (es : List Entry) (b : List Move) where
           let z : p ≡ q = cc in
           let le = serving_short q k r (ap (λ o. serve o k) z) f in
           omega arith
-      side p k i r (inr a) = queued-there (serve p k) i r a
+      side p k i r (inr a) = queued_there (serve p k) i r a
 
       go : (m : Mode) → Queues g t m es → Runs g t m es b → Mem (worker q) (queued m es) → Short g t b
       go (serve p k) i r a = side p k i r (Mem-cases a)
-      go (flush k) i r a = queued-there (flush k) i r a
+      go (flush k) i r a = queued_there (flush k) i r a
 
-  tick-in-time : (m : Mode) → Queues g t m es → Runs g t m es b → AllThrough g t b WaitsLater → (In tick b → ⊥) →
+  tick_in_time : (m : Mode) → Queues g t m es → Runs g t m es b → AllThrough g t b WaitsLater → (In tick b → ⊥) →
       Short g t b
-  tick-in-time m i r all f =
+  tick_in_time m i r all f =
       let n = i.rounds.0 in
       let le = stretch_short g WaitsLater tick (PlaceIn round) (tick_nears g) (moves_until m n) r
       (n, i.rounds.1, omega arith) all f in
       let y = moves_until_bounded g t m es round n i i.rounds.1 in
       omega arith
 
-  signal-in-time : (m : Mode) → Queues g t m es → Runs g t m es b → AllThrough g t b (λ v. v.signals ≡ [] → ⊥) →
+  signal_in_time : (m : Mode) → Queues g t m es → Runs g t m es b → AllThrough g t b (λ v. v.signals ≡ [] → ⊥) →
       (In signal b → ⊥) → Short g t b
-  signal-in-time m i r all f =
+  signal_in_time m i r all f =
       let le = stretch_short g (λ v. v.signals ≡ [] → ⊥) signal SignalIn (signal_nears g) (until_signal m) r
       (omega arith) all f in
       let y = small m i.small in
@@ -387,31 +387,31 @@ runs_front {g} {s} {m} {es} (moving {x = y} {l = l} st d j u) (x ∷ b) c e =
 
 module _ (g : Program) where
   -- a long stretch of the order has the move
-  long-has : {s : System} {m : Mode} {es : List Entry} {l : List Move} → Queues g s m es → Runs g s m es l →
+  long_has : {s : System} {m : Mode} {es : List Entry} {l : List Move} → Queues g s m es → Runs g s m es l →
       (x : Move) (a b c : List Move) (t : System) → l ≡ a ++ (b ++ c) → moves g s a ≡ is t →
       4096 * (1 + able g t t.workers) < length b →
       ((es : List Entry) (m : Mode) → Queues g t m es → Runs g t m es b → (In x b → ⊥) → Short g t b) → In x b
-  long-has i u x a b c t e h long short = go (rest_after g u a (b ++ c) t i e h) (In_or_not x b)
+  long_has i u x a b c t e h long short = go (rest_after g u a (b ++ c) t i e h) (In_or_not x b)
     where
-      none-long : b ++ c ≡ [] → ⊥
-      none-long d = let y : length b ≡ 0 = ap length (sym (append_none_left b c (sym d))) in omega arith
+      none_long : b ++ c ≡ [] → ⊥
+      none_long d = let y : length b ≡ 0 = ap length (sym (append_none_left b c (sym d))) in omega arith
 
       go : (b ++ c ≡ []) ⊎ Rest g t (b ++ c) → In x b ⊎ (In x b → ⊥) → In x b
       go w (inl y) = y
-      go (inl d) (inr f) = absurd (none-long d)
+      go (inl d) (inr f) = absurd (none_long d)
       go (inr w) (inr f) =
           let le = short w.queue w.mode w.exact (runs_front w.runs b c refl) f in
           absurd (omega arith)
 
-  runs-fair : {s : System} {m : Mode} {es : List Entry} {l : List Move} → Queues g s m es → Runs g s m es l →
+  runs_fair : {s : System} {m : Mode} {es : List Entry} {l : List Move} → Queues g s m es → Runs g s m es l →
       Fair g s l
-  runs-fair i u = record {
-    turns = λ a b c t q e h all long. long-has i u (turn q) a b c t e h long
-        (λ es m j r f. turn-in-time g t es b q m j r all f);
-    signals = λ a b c t e h all long. long-has i u signal a b c t e h long
-        (λ es m j r f. signal-in-time g t es b m j r all f);
-    times = λ a b c t e h all long. long-has i u tick a b c t e h long
-        (λ es m j r f. tick-in-time g t es b m j r all f);
+  runs_fair i u = record {
+    turns = λ a b c t q e h all long. long_has i u (turn q) a b c t e h long
+        (λ es m j r f. turn_in_time g t es b q m j r all f);
+    signals = λ a b c t e h all long. long_has i u signal a b c t e h long
+        (λ es m j r f. signal_in_time g t es b m j r all f);
+    times = λ a b c t e h all long. long_has i u tick a b c t e h long
+        (λ es m j r f. tick_in_time g t es b m j r all f);
   }
 
 -- steps that were made, with what is to come
@@ -431,7 +431,7 @@ steps_then_runs {g} {s₀} {m₀} {es₀} {r = r} (and_step {l = l} {x = x} a st
 
 pub fair_always : FairAlways
 fair_always g s₀ s m₀ m es₀ es l i a = (
-  runs-fair g i (subst (Runs g s₀ m₀ es₀) (append-nil l) (steps_then_runs a stop)),
-  λ x. runs-fair g i
+  runs_fair g i (subst (Runs g s₀ m₀ es₀) (append-nil l) (steps_then_runs a stop)),
+  λ x. runs_fair g i
       (steps_then_runs a any_move),
 )

@@ -47,7 +47,7 @@ among-gone x (y ∷ ls) =
     (λ e r. among-gone x ls)
     (λ e r. ap (λ (b : Bool). b || among x (without x ls)) e ∙ among-gone x ls) refl
 
--- what add-link does to links
+-- what `add_link` does to links
 pub add_link_keeps : (n : ℕ) → KeepsNumber (add_link n)
 add_link_keeps n w = cond_all (λ x. x.pid ≡ w.pid) (among n w.links) w (set_links (w.links ++ (n ∷ [])) w)
     (λ h. refl) (λ h. refl)
@@ -186,7 +186,7 @@ new_sound ws k v p n h = record {
   links_below = λ q l x e a. elim (was q x e) [
     | inl b ↦ let z = h.links_below q l x b a in
         omega arith
-    | inr b ↦ absurd (no-links l x b.1 a)
+    | inr b ↦ absurd (no_links l x b.1 a)
   ];
   both = λ q r x y e d a. elim (was q x e) [
     | inl b ↦ elim (was r y d) [
@@ -194,15 +194,15 @@ new_sound ws k v p n h = record {
       | inr c ↦ let z = h.links_below q r x b a in
           let z2 = c.0 in absurd (omega arith)
     ]
-    | inr b ↦ absurd (no-links r x b.1 a)
+    | inr b ↦ absurd (no_links r x b.1 a)
   ];
 }
   where
     free : find ws k ≡ none
     free = sound_free ws k h k (omega arith)
 
-    no-links : (l : ℕ) (x : Worker) → x ≡ v → among l x.links ≡ true → ⊥
-    no-links l x e a = no_clash a (ap (λ (z : Worker). among l z.links) e ∙ ap (among l) n)
+    no_links : (l : ℕ) (x : Worker) → x ≡ v → among l x.links ≡ true → ⊥
+    no_links l x e a = no_clash a (ap (λ (z : Worker). among l z.links) e ∙ ap (among l) n)
 
     was : (q : ℕ) (x : Worker) → find (ws ++ (v ∷ [])) q ≡ some x → (find ws q ≡ some x) ⊎ ((q ≡ k) × (x ≡ v))
     was q x e = elim (found_before_new ws v q x e) [ inl a ↦ inl a | inr a ↦ inr (a.0 ∙ p, a.1) ]

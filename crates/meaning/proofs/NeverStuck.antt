@@ -28,8 +28,8 @@ use Rattle.meaning.specs.Effects.{turn_stuck}
 use Rattle.meaning.proofs.Splits.{cond_all, opt_all, OnSome}
 use Rattle.meaning.proofs.Effects.{Arity, perform_view, entered_is}
 use Rattle.meaning.proofs.Links.{Sound, move-sound, first_sound}
-use Rattle.meaning.proofs.OwnCode.{AsBeforeOrNew, EveryWorker, within-every, settle-every, Onward, act_onward}
-use Rattle.meaning.proofs.OwnCode.{effect_code, all_as_before, signal-every}
+use Rattle.meaning.proofs.OwnCode.{AsBeforeOrNew, EveryWorker, within_every, settle_every, Onward, act_onward}
+use Rattle.meaning.proofs.OwnCode.{effect_code, all_as_before, signal_every}
 use Rattle.meaning.proofs.Finding.{gone-within, find_only}
 use Rattle.meaning.proofs.Results.{OnResult, moves_all, turn_all, tick_all, at_first, begin_all, on_both}
 use Rattle.meaning.proofs.Results.{first_worker, deliver_all}
@@ -78,56 +78,56 @@ module _ (g : Program) (gd : GoodProgram g) (s : System) (u : Apart s.workers) w
   unchanged : AsBeforeOrNew GoodControl s s
   unchanged = all_as_before GoodControl s
 
-  from-good : (w : Scope) (c : Control) → From g s w c → GoodControl c
-  from-good w c (own f vs e) = entered_good g w.home w.version f vs c gd e
-  from-good w c (other m n f vs e d) = entered_good g m n f vs c gd d
+  from_good : (w : Scope) (c : Control) → From g s w c → GoodControl c
+  from_good w c (own f vs e) = entered_good g w.home w.version f vs c gd e
+  from_good w c (other m n f vs e d) = entered_good g m n f vs c gd d
 
-  operands-meant : (k : List Frame) (me : ℕ) (w : Scope) (j : Operation) (vs : List Value) (es : Exprs) →
+  operands_meant : (k : List Frame) (me : ℕ) (w : Scope) (j : Operation) (vs : List Value) (es : Exprs) →
       GoodFrames k → Arity j (length vs + count es) → GoodExprs (names_of w.vars) es →
       Meant (operands g k s me w j vs es)
-  operands-meant k me w j vs no_e h a q =
+  operands_meant k me w j vs no_e h a q =
       act_onward GoodControl GoodFrames ⊥ g k s me w j (length vs) (perform g k s me w j vs) (λ v. tt)
-      (λ v. tt) (from-good w) h (λ z. z (let e : length vs + 0 ≡ length vs = omega arith in subst (Arity j) e a)) u
+      (λ v. tt) (from_good w) h (λ z. z (let e : length vs + 0 ≡ length vs = omega arith in subst (Arity j) e a)) u
       (perform_view g k s me w j vs)
-  operands-meant k me w j vs (and_e e es) h a q = (q.0, ((a, q.1), h), unchanged)
+  operands_meant k me w j vs (and_e e es) h a q = (q.0, ((a, q.1), h), unchanged)
 
-  evaluate-meant : (k : List Frame) (me : ℕ) (e : Expr) (w : Scope) → GoodFrames k →
+  evaluate_meant : (k : List Frame) (me : ℕ) (e : Expr) (w : Scope) → GoodFrames k →
       GoodExpr (names_of w.vars) e → Meant (evaluate g k s me e w)
-  evaluate-meant k me (int n) w h q = (tt, h, unchanged)
-  evaluate-meant k me (atom x) w h q = (tt, h, unchanged)
-  evaluate-meant k me (var x) w h q = opt_all Meant (look_up w.vars x) stuck (gives k s)
+  evaluate_meant k me (int n) w h q = (tt, h, unchanged)
+  evaluate_meant k me (atom x) w h q = (tt, h, unchanged)
+  evaluate_meant k me (var x) w h q = opt_all Meant (look_up w.vars x) stuck (gives k s)
       (λ e. listed_found w.vars x q e) (λ v e. (tt, h, unchanged))
-  evaluate-meant k me nil w h q = (tt, h, unchanged)
-  evaluate-meant k me (apply j es) w h q =
-      operands-meant k me w j [] es h (let e : count es ≡ 0 + count es = omega arith in subst (Arity j) e q.0)
+  evaluate_meant k me nil w h q = (tt, h, unchanged)
+  evaluate_meant k me (apply j es) w h q =
+      operands_meant k me w j [] es h (let e : count es ≡ 0 + count es = omega arith in subst (Arity j) e q.0)
       q.1
-  evaluate-meant k me (case e cs) w h q = (q.0, (q.1, h), unchanged)
-  evaluate-meant k me (receive cs) w h q = ((q, tt), h, unchanged)
-  evaluate-meant k me (receive_until cs e b) w h q = (q.1, ((q.0, q.2), h), unchanged)
-  evaluate-meant k me (catch b) w h q = (q, (tt, h), unchanged)
+  evaluate_meant k me (case e cs) w h q = (q.0, (q.1, h), unchanged)
+  evaluate_meant k me (receive cs) w h q = ((q, tt), h, unchanged)
+  evaluate_meant k me (receive_until cs e b) w h q = (q.1, ((q.0, q.2), h), unchanged)
+  evaluate_meant k me (catch b) w h q = (q, (tt, h), unchanged)
 
-  body-meant : (k : List Frame) (b : Body) (w : Scope) → GoodFrames k → GoodBody (names_of w.vars) b →
+  body_meant : (k : List Frame) (b : Body) (w : Scope) → GoodFrames k → GoodBody (names_of w.vars) b →
       Meant (begin_body k s b w)
-  body-meant k (last e) w h q = (q, h, unchanged)
-  body-meant k (bind p e b) w h q = (q.0, (q.1, h), unchanged)
+  body_meant k (last e) w h q = (q, h, unchanged)
+  body_meant k (bind p e b) w h q = (q.0, (q.1, h), unchanged)
 
-  until-meant : (k : List Frame) (cs : Clauses) (b : Body) (w : Scope) (n : ℤ) → GoodFrames k →
+  until_meant : (k : List Frame) (cs : Clauses) (b : Body) (w : Scope) (n : ℤ) → GoodFrames k →
       GoodClauses (names_of w.vars) cs → GoodBody (names_of w.vars) b → Meant (wait_until k s cs b w n)
-  until-meant k cs b w (pos n) h q r = ((q, r), h, unchanged)
-  until-meant k cs b w (negsuc n) h q r = (tt, h, unchanged)
+  until_meant k cs b w (pos n) h q r = ((q, r), h, unchanged)
+  until_meant k cs b w (negsuc n) h q r = (tt, h, unchanged)
 
-  one-operand-more : (j : Operation) (vs : List Value) (v : Value) (n : ℕ) → Arity j (length vs + (1 + n)) →
+  one_operand_more : (j : Operation) (vs : List Value) (v : Value) (n : ℕ) → Arity j (length vs + (1 + n)) →
       Arity j (length (vs ++ (v ∷ [])) + n)
-  one-operand-more j vs v n a =
+  one_operand_more j vs v n a =
       let e : length vs + (1 + n) ≡ length (vs ++ (v ∷ [])) + n = simp length-append (omega arith) in
       subst (Arity j) e a
 
-  resume-meant : (me : Worker) (v : Value) (k : List Frame) → GoodFrames k → Meant (resume g s me v k)
-  resume-meant me v [] h = tt
-  resume-meant me v (operands_frame j vs es w ∷ k) h =
-      operands-meant k me.pid w j (vs ++ (v ∷ [])) es h.1 (one-operand-more j vs v (count es) h.0.0)
+  resume_meant : (me : Worker) (v : Value) (k : List Frame) → GoodFrames k → Meant (resume g s me v k)
+  resume_meant me v [] h = tt
+  resume_meant me v (operands_frame j vs es w ∷ k) h =
+      operands_meant k me.pid w j (vs ++ (v ∷ [])) es h.1 (one_operand_more j vs v (count es) h.0.0)
       h.0.1
-  resume-meant me v (bind_frame p b w ∷ k) h = opt_all Meant (match p v w.vars) (error k s a_match)
+  resume_meant me v (bind_frame p b w ∷ k) h = opt_all Meant (match p v w.vars) (error k s a_match)
       (λ bs. goes_on (enter b (rebind w bs)) k s) (λ e. (tt, h.1, unchanged))
       (λ bs e. (
         subst (λ (ys : List Name). GoodBody ys b)
@@ -136,7 +136,7 @@ module _ (g : Program) (gd : GoodProgram g) (s : System) (u : Apart s.workers) w
         h.1,
         unchanged,
       ))
-  resume-meant me v (case_frame cs w ∷ k) h = opt_all Meant (choose cs v w.vars) (error k s a_clause)
+  resume_meant me v (case_frame cs w ∷ k) h = opt_all Meant (choose cs v w.vars) (error k s a_clause)
       (λ c. goes_on (enter c.body (rebind w c.vars)) k s) (λ e. (tt, h.1, unchanged))
       (λ c e. (
         subst (OnSome (λ (c : Chosen). GoodBody (names_of c.vars) c.body)) e
@@ -144,40 +144,40 @@ module _ (g : Program) (gd : GoodProgram g) (s : System) (u : Apart s.workers) w
         h.1,
         unchanged,
       ))
-  resume-meant me v (until_frame cs b w ∷ k) h = opt_all Meant (as_int v) (error k s a_type) (wait_until k s cs b w)
-      (λ e. (tt, h.1, unchanged)) (λ n e. until-meant k cs b w n h.1 h.0.0 h.0.1)
-  resume-meant me v (catch_frame ∷ k) h = (tt, h.1, unchanged)
+  resume_meant me v (until_frame cs b w ∷ k) h = opt_all Meant (as_int v) (error k s a_type) (wait_until k s cs b w)
+      (λ e. (tt, h.1, unchanged)) (λ n e. until_meant k cs b w n h.1 h.0.0 h.0.1)
+  resume_meant me v (catch_frame ∷ k) h = (tt, h.1, unchanged)
 
-  unwind-meant : (me : Worker) (r : Value) (k : List Frame) → GoodFrames k → Meant (unwind s me r k)
-  unwind-meant me r [] h = tt
-  unwind-meant me r (operands_frame j vs es w ∷ k) h = (tt, h.1, unchanged)
-  unwind-meant me r (bind_frame p b w ∷ k) h = (tt, h.1, unchanged)
-  unwind-meant me r (case_frame cs w ∷ k) h = (tt, h.1, unchanged)
-  unwind-meant me r (until_frame cs b w ∷ k) h = (tt, h.1, unchanged)
-  unwind-meant me r (catch_frame ∷ k) h = (tt, h.1, unchanged)
+  unwind_meant : (me : Worker) (r : Value) (k : List Frame) → GoodFrames k → Meant (unwind s me r k)
+  unwind_meant me r [] h = tt
+  unwind_meant me r (operands_frame j vs es w ∷ k) h = (tt, h.1, unchanged)
+  unwind_meant me r (bind_frame p b w ∷ k) h = (tt, h.1, unchanged)
+  unwind_meant me r (case_frame cs w ∷ k) h = (tt, h.1, unchanged)
+  unwind_meant me r (until_frame cs b w ∷ k) h = (tt, h.1, unchanged)
+  unwind_meant me r (catch_frame ∷ k) h = (tt, h.1, unchanged)
 
-  timed-out-meant : (k : List Frame) (un : Until) (w : Scope) → GoodFrames k → GoodUntil (names_of w.vars) un →
+  timed_out_meant : (k : List Frame) (un : Until) (w : Scope) → GoodFrames k → GoodUntil (names_of w.vars) un →
       OnSome Meant (timed_out s k un w)
-  timed-out-meant k for_ever w h q = tt
-  timed-out-meant k (until t b) w h q =
+  timed_out_meant k for_ever w h q = tt
+  timed_out_meant k (until t b) w h q =
       cond_all (OnSome Meant) (leb t s.clock) (some (goes_on (enter b w) k s)) none (λ e. (q, h, unchanged))
       (λ e. tt)
 
-  turn-with-meant : (me : Worker) (c : Control) → GoodControl c → GoodFrames me.frames →
+  turn_with_meant : (me : Worker) (c : Control) → GoodControl c → GoodFrames me.frames →
       OnSome Meant (turn_with g s me c)
-  turn-with-meant me (eval e w) q h = evaluate-meant me.frames me.pid e w h q
-  turn-with-meant me (give v) q h = resume-meant me v me.frames h
-  turn-with-meant me (enter b w) q h = body-meant me.frames b w h q
-  turn-with-meant me (fail r) q h = unwind-meant me r me.frames h
-  turn-with-meant me (wait cs un w) q h =
+  turn_with_meant me (eval e w) q h = evaluate_meant me.frames me.pid e w h q
+  turn_with_meant me (give v) q h = resume_meant me v me.frames h
+  turn_with_meant me (enter b w) q h = body_meant me.frames b w h q
+  turn_with_meant me (fail r) q h = unwind_meant me r me.frames h
+  turn_with_meant me (wait cs un w) q h =
       opt_all (OnSome Meant) (take_first cs w.vars me.mail) (timed_out s me.frames un w)
       (λ t. some (goes_on (enter t.chosen.body (rebind w t.chosen.vars)) me.frames
-      (on_worker s me.pid (set_mail t.rest)))) (λ e. timed-out-meant me.frames un w h q.1)
+      (on_worker s me.pid (set_mail t.rest)))) (λ e. timed_out_meant me.frames un w h q.1)
       (λ t e. (
         subst (OnSome (λ (t : Taken). GoodBody (names_of t.chosen.vars) t.chosen.body)) e
             (take_first_good cs w.vars me.mail q.0),
         h,
-        effect_code GoodControl g s w me.pid _ (from-good w)
+        effect_code GoodControl g s w me.pid _ (from_good w)
             (took t.rest),
       ))
 
@@ -187,14 +187,14 @@ GoodSystem s = EveryWorker GoodControl GoodFrames s.workers
 turned_good : (g : Program) (s : System) (n : ℕ) (me : Worker) (o : Outcome) → Apart s.workers → Turned g s me o →
     Onward GoodControl GoodFrames ⊥ s o → GoodSystem s → OnResult GoodSystem ⊥ (settle n o)
 turned_good g s n me o u (turn_goes c k w {t} d) r h =
-    settle-every GoodControl GoodFrames s t n c k tt r.2 h r.0 r.1
+    settle_every GoodControl GoodFrames s t n c k tt r.2 h r.0 r.1
 turned_good g s n me o u (turn_ends x why) r h =
-    within-every GoodControl GoodFrames (gone s.workers me.pid) s.workers
+    within_every GoodControl GoodFrames (gone s.workers me.pid) s.workers
     (gone-within s.workers me.pid u) h
 turned_good g s n me o u (turn_swaps c k x m y d f wo) r h =
-    settle-every GoodControl GoodFrames s (swapped s x m) n c k tt r.2 h r.0 r.1
+    settle_every GoodControl GoodFrames s (swapped s x m) n c k tt r.2 h r.0 r.1
 turned_good g s n me o u (turn_swapped_out x m d f wo) r h =
-    within-every GoodControl GoodFrames (swapped s x m).workers s.workers (swapped-within s x m u) h
+    within_every GoodControl GoodFrames (swapped s x m).workers s.workers (swapped-within s x m u) h
 turned_good g s n me o u turn_stuck r h = r
 
 pub move_good : (g : Program) → GoodProgram g → (s : System) (m : Move) → Apart s.workers → GoodSystem s →
@@ -203,9 +203,9 @@ move_good g gd s (turn n) u h =
     turn_all g s n (OnResult GoodSystem ⊥) tt
     (λ me o p e d v. let mine = h me.pid me e in
     turned_good g s n me o u v (subst (OnSome (Onward GoodControl GoodFrames ⊥ s)) d
-    (turn-with-meant g gd s u me me.control mine.0 mine.1)) h)
+    (turn_with_meant g gd s u me me.control mine.0 mine.1)) h)
 move_good g gd s signal u h = deliver_all GoodSystem ⊥ s s.signals (λ x gs i. h)
-    (λ x gs w i e. signal-every GoodControl GoodFrames (with_signals s gs) x w u h)
+    (λ x gs w i e. signal_every GoodControl GoodFrames (with_signals s gs) x w u h)
 move_good g gd s tick u h = tick_all GoodSystem ⊥ s (λ t l. h)
 
 first_good : (g : Program) (c : Control) → GoodProgram g → enter_function g (first_name g) 1 a_main [] ≡ some c →

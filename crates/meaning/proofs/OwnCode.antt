@@ -132,22 +132,22 @@ module _ (OnControl : Control → Type 0) (OnFrames : List Frame → Type 0) whe
       OnControl x.control × OnFrames x.frames
   same_code x y e d h = (subst OnControl (sym e) h.0, subst OnFrames (sym d) h.1)
 
-  pub within-every : (vs ws : List Worker) → Within vs ws → EveryWorker OnControl OnFrames ws →
+  pub within_every : (vs ws : List Worker) → Within vs ws → EveryWorker OnControl OnFrames ws →
       EveryWorker OnControl OnFrames vs
-  within-every vs ws sub h q x e = h q x (sub q x e)
+  within_every vs ws sub h q x e = h q x (sub q x e)
 
-  pub change-every : (ws : List Worker) (n : ℕ) (f : Worker → Worker) → KeepsNumber f → KeepsCode f →
+  pub change_every : (ws : List Worker) (n : ℕ) (f : Worker → Worker) → KeepsNumber f → KeepsCode f →
       EveryWorker OnControl OnFrames ws → EveryWorker OnControl OnFrames (change ws n f)
-  change-every ws n f kp kc h q x e =
+  change_every ws n f kp kc h q x e =
       let r = code_before-change ws n f kp kc q x e in
       same_code x r.0 r.2 r.3 (h q r.0 r.1)
 
   -- what was there is as before, what is new has it, and the one that moved has it
-  pub settle-every : (s t : System) (n : ℕ) (c : Control) (k : List Frame) → OnFrames [] →
+  pub settle_every : (s t : System) (n : ℕ) (c : Control) (k : List Frame) → OnFrames [] →
       AsBeforeOrNew OnControl s t →
       EveryWorker OnControl OnFrames s.workers → OnControl c → OnFrames k →
       EveryWorker OnControl OnFrames (change t.workers n (set_control c k))
-  settle-every s t n c k nl od h pc pk q x e =
+  settle_every s t n c k nl od h pc pk q x e =
       let r = found_before-change t.workers n (set_control c k) (λ y. refl) q x e in
       go r.0 r.1 r.2
     where
@@ -165,15 +165,15 @@ module _ (OnControl : Control → Type 0) (OnFrames : List Frame → Type 0) whe
       go y d (inr i) = subst (λ (z : Worker). OnControl z.control × OnFrames z.frames) (sym i.1) (pc, pk)
 
   -- signals and the clock change no code
-  pub signal-every : (s : System) (g : Signal) (w : Worker) → Apart s.workers →
+  pub signal_every : (s : System) (g : Signal) (w : Worker) → Apart s.workers →
       EveryWorker OnControl OnFrames s.workers →
       EveryWorker OnControl OnFrames (take_signal s g w).workers
-  signal-every s g w u h = take_signal_all (λ t. EveryWorker OnControl OnFrames t.workers) s g w
-      (change-every s.workers w.pid (add_mail _) (λ x. refl) (λ x. (refl, refl)) h)
-      (change-every (change s.workers w.pid (cut_link g.from)) g.from (cut_link w.pid) (λ x. refl)
+  signal_every s g w u h = take_signal_all (λ t. EveryWorker OnControl OnFrames t.workers) s g w
+      (change_every s.workers w.pid (add_mail _) (λ x. refl) (λ x. (refl, refl)) h)
+      (change_every (change s.workers w.pid (cut_link g.from)) g.from (cut_link w.pid) (λ x. refl)
       (λ x. (refl, refl))
-      (change-every s.workers w.pid (cut_link g.from) (λ x. refl) (λ x. (refl, refl)) h))
-      (within-every (gone s.workers w.pid) s.workers (gone-within s.workers w.pid u) h)
+      (change_every s.workers w.pid (cut_link g.from) (λ x. refl) (λ x. (refl, refl)) h))
+      (within_every (gone s.workers w.pid) s.workers (gone-within s.workers w.pid u) h)
 
 -- the scope in which a control or a frame is at work, if it is code
 abbrev pub control_scope : Control → Option Scope
@@ -266,8 +266,8 @@ entered_in Q g m n f vs c e q = subst (InControl Q) (entered_is g m n f vs c e).
 
 module _ (g : Program) (s : System) (Q : Name → ℕ → Type 0)
     (now : (m : Name) (n : ℕ) → current s.loaded m ≡ some n → Q m n) (u : Apart s.workers) where
-  abbrev Onward-in : Outcome → Type 0
-  Onward-in o = Onward (InControl Q) (InFrames Q) (Unit {0}) s o
+  abbrev OnwardIn : Outcome → Type 0
+  OnwardIn o = Onward (InControl Q) (InFrames Q) (Unit {0}) s o
 
   unchanged : AsBeforeOrNew (InControl Q) s s
   unchanged = all_as_before (InControl Q) s
@@ -276,77 +276,77 @@ module _ (g : Program) (s : System) (Q : Name → ℕ → Type 0)
   from_in w q c (own f vs e) = entered_in Q g w.home w.version f vs c e q
   from_in w q c (other m n f vs e d) = entered_in Q g m n f vs c d (now m n e)
 
-  operands-onward : (k : List Frame) (me : ℕ) (w : Scope) (j : Operation) (vs : List Value) (es : Exprs) →
-      InFrames Q k → Q w.home w.version → Onward-in (operands g k s me w j vs es)
-  operands-onward k me w j vs no_e h q =
+  operands_onward : (k : List Frame) (me : ℕ) (w : Scope) (j : Operation) (vs : List Value) (es : Exprs) →
+      InFrames Q k → Q w.home w.version → OnwardIn (operands g k s me w j vs es)
+  operands_onward k me w j vs no_e h q =
       act_onward (InControl Q) (InFrames Q) (Unit {0}) g k s me w j (length vs) (perform g k s me w j vs) (λ v. tt)
       (λ v. tt) (from_in w q) h (λ z. tt) u (perform_view g k s me w j vs)
-  operands-onward k me w j vs (and_e e es) h q = (q, (q, h), unchanged)
+  operands_onward k me w j vs (and_e e es) h q = (q, (q, h), unchanged)
 
-  evaluate-onward : (k : List Frame) (me : ℕ) (e : Expr) (w : Scope) → InFrames Q k → Q w.home w.version →
-      Onward-in (evaluate g k s me e w)
-  evaluate-onward k me (int n) w h q = (tt, h, unchanged)
-  evaluate-onward k me (atom x) w h q = (tt, h, unchanged)
-  evaluate-onward k me (var x) w h q = opt_all Onward-in (look_up w.vars x) stuck (gives k s) (λ e. tt)
+  evaluate_onward : (k : List Frame) (me : ℕ) (e : Expr) (w : Scope) → InFrames Q k → Q w.home w.version →
+      OnwardIn (evaluate g k s me e w)
+  evaluate_onward k me (int n) w h q = (tt, h, unchanged)
+  evaluate_onward k me (atom x) w h q = (tt, h, unchanged)
+  evaluate_onward k me (var x) w h q = opt_all OnwardIn (look_up w.vars x) stuck (gives k s) (λ e. tt)
       (λ v e. (tt, h, unchanged))
-  evaluate-onward k me nil w h q = (tt, h, unchanged)
-  evaluate-onward k me (apply j es) w h q = operands-onward k me w j [] es h q
-  evaluate-onward k me (case e cs) w h q = (q, (q, h), unchanged)
-  evaluate-onward k me (receive cs) w h q = (q, h, unchanged)
-  evaluate-onward k me (receive_until cs e b) w h q = (q, (q, h), unchanged)
-  evaluate-onward k me (catch b) w h q = (q, (tt, h), unchanged)
+  evaluate_onward k me nil w h q = (tt, h, unchanged)
+  evaluate_onward k me (apply j es) w h q = operands_onward k me w j [] es h q
+  evaluate_onward k me (case e cs) w h q = (q, (q, h), unchanged)
+  evaluate_onward k me (receive cs) w h q = (q, h, unchanged)
+  evaluate_onward k me (receive_until cs e b) w h q = (q, (q, h), unchanged)
+  evaluate_onward k me (catch b) w h q = (q, (tt, h), unchanged)
 
-  body-onward : (k : List Frame) (b : Body) (w : Scope) → InFrames Q k → Q w.home w.version →
-      Onward-in (begin_body k s b w)
-  body-onward k (last e) w h q = (q, h, unchanged)
-  body-onward k (bind p e b) w h q = (q, (q, h), unchanged)
+  body_onward : (k : List Frame) (b : Body) (w : Scope) → InFrames Q k → Q w.home w.version →
+      OnwardIn (begin_body k s b w)
+  body_onward k (last e) w h q = (q, h, unchanged)
+  body_onward k (bind p e b) w h q = (q, (q, h), unchanged)
 
-  until-onward : (k : List Frame) (cs : Clauses) (b : Body) (w : Scope) (n : ℤ) → InFrames Q k →
-      Q w.home w.version → Onward-in (wait_until k s cs b w n)
-  until-onward k cs b w (pos n) h q = (q, h, unchanged)
-  until-onward k cs b w (negsuc n) h q = (tt, h, unchanged)
+  until_onward : (k : List Frame) (cs : Clauses) (b : Body) (w : Scope) (n : ℤ) → InFrames Q k →
+      Q w.home w.version → OnwardIn (wait_until k s cs b w n)
+  until_onward k cs b w (pos n) h q = (q, h, unchanged)
+  until_onward k cs b w (negsuc n) h q = (tt, h, unchanged)
 
-  resume-onward : (me : Worker) (v : Value) (k : List Frame) → InFrames Q k → Onward-in (resume g s me v k)
-  resume-onward me v [] h = tt
-  resume-onward me v (operands_frame j vs es w ∷ k) h =
-      operands-onward k me.pid w j (vs ++ (v ∷ [])) es h.1 h.0
-  resume-onward me v (bind_frame p b w ∷ k) h = opt_all Onward-in (match p v w.vars) (error k s a_match)
+  resume_onward : (me : Worker) (v : Value) (k : List Frame) → InFrames Q k → OnwardIn (resume g s me v k)
+  resume_onward me v [] h = tt
+  resume_onward me v (operands_frame j vs es w ∷ k) h =
+      operands_onward k me.pid w j (vs ++ (v ∷ [])) es h.1 h.0
+  resume_onward me v (bind_frame p b w ∷ k) h = opt_all OnwardIn (match p v w.vars) (error k s a_match)
       (λ bs. goes_on (enter b (rebind w bs)) k s) (λ e. (tt, h.1, unchanged)) (λ bs e. (h.0, h.1, unchanged))
-  resume-onward me v (case_frame cs w ∷ k) h = opt_all Onward-in (choose cs v w.vars) (error k s a_clause)
+  resume_onward me v (case_frame cs w ∷ k) h = opt_all OnwardIn (choose cs v w.vars) (error k s a_clause)
       (λ c. goes_on (enter c.body (rebind w c.vars)) k s) (λ e. (tt, h.1, unchanged))
       (λ c e. (h.0, h.1, unchanged))
-  resume-onward me v (until_frame cs b w ∷ k) h =
-      opt_all Onward-in (as_int v) (error k s a_type) (wait_until k s cs b w) (λ e. (tt, h.1, unchanged))
-      (λ n e. until-onward k cs b w n h.1 h.0)
-  resume-onward me v (catch_frame ∷ k) h = (tt, h.1, unchanged)
+  resume_onward me v (until_frame cs b w ∷ k) h =
+      opt_all OnwardIn (as_int v) (error k s a_type) (wait_until k s cs b w) (λ e. (tt, h.1, unchanged))
+      (λ n e. until_onward k cs b w n h.1 h.0)
+  resume_onward me v (catch_frame ∷ k) h = (tt, h.1, unchanged)
 
-  unwind-onward : (me : Worker) (r : Value) (k : List Frame) → InFrames Q k → Onward-in (unwind s me r k)
-  unwind-onward me r [] h = tt
-  unwind-onward me r (operands_frame j vs es w ∷ k) h = (tt, h.1, unchanged)
-  unwind-onward me r (bind_frame p b w ∷ k) h = (tt, h.1, unchanged)
-  unwind-onward me r (case_frame cs w ∷ k) h = (tt, h.1, unchanged)
-  unwind-onward me r (until_frame cs b w ∷ k) h = (tt, h.1, unchanged)
-  unwind-onward me r (catch_frame ∷ k) h = (tt, h.1, unchanged)
+  unwind_onward : (me : Worker) (r : Value) (k : List Frame) → InFrames Q k → OnwardIn (unwind s me r k)
+  unwind_onward me r [] h = tt
+  unwind_onward me r (operands_frame j vs es w ∷ k) h = (tt, h.1, unchanged)
+  unwind_onward me r (bind_frame p b w ∷ k) h = (tt, h.1, unchanged)
+  unwind_onward me r (case_frame cs w ∷ k) h = (tt, h.1, unchanged)
+  unwind_onward me r (until_frame cs b w ∷ k) h = (tt, h.1, unchanged)
+  unwind_onward me r (catch_frame ∷ k) h = (tt, h.1, unchanged)
 
-  timed-out-onward : (k : List Frame) (un : Until) (w : Scope) → InFrames Q k → Q w.home w.version →
-      OnSome Onward-in (timed_out s k un w)
-  timed-out-onward k for_ever w h q = tt
-  timed-out-onward k (until t b) w h q =
-      cond_all (OnSome Onward-in) (leb t s.clock) (some (goes_on (enter b w) k s)) none (λ e. (q, h, unchanged))
+  timed_out_onward : (k : List Frame) (un : Until) (w : Scope) → InFrames Q k → Q w.home w.version →
+      OnSome OnwardIn (timed_out s k un w)
+  timed_out_onward k for_ever w h q = tt
+  timed_out_onward k (until t b) w h q =
+      cond_all (OnSome OnwardIn) (leb t s.clock) (some (goes_on (enter b w) k s)) none (λ e. (q, h, unchanged))
       (λ e. tt)
 
-  turn-with-onward : (me : Worker) (c : Control) → InControl Q c → InFrames Q me.frames →
-      OnSome Onward-in (turn_with g s me c)
-  turn-with-onward me (eval e w) q h = evaluate-onward me.frames me.pid e w h q
-  turn-with-onward me (give v) q h = resume-onward me v me.frames h
-  turn-with-onward me (enter b w) q h = body-onward me.frames b w h q
-  turn-with-onward me (fail r) q h = unwind-onward me r me.frames h
-  turn-with-onward me (wait cs un w) q h =
-      opt_all (OnSome Onward-in) (take_first cs w.vars me.mail) (timed_out s me.frames un w)
+  turn_with_onward : (me : Worker) (c : Control) → InControl Q c → InFrames Q me.frames →
+      OnSome OnwardIn (turn_with g s me c)
+  turn_with_onward me (eval e w) q h = evaluate_onward me.frames me.pid e w h q
+  turn_with_onward me (give v) q h = resume_onward me v me.frames h
+  turn_with_onward me (enter b w) q h = body_onward me.frames b w h q
+  turn_with_onward me (fail r) q h = unwind_onward me r me.frames h
+  turn_with_onward me (wait cs un w) q h =
+      opt_all (OnSome OnwardIn) (take_first cs w.vars me.mail) (timed_out s me.frames un w)
       (λ t. some (goes_on (enter t.chosen.body (rebind w t.chosen.vars)) me.frames
-      (on_worker s me.pid (set_mail t.rest)))) (λ e. timed-out-onward me.frames un w h q)
+      (on_worker s me.pid (set_mail t.rest)))) (λ e. timed_out_onward me.frames un w h q)
       (λ t e. (q, h, effect_code (InControl Q) g s w me.pid _ (from_in w q) (took t.rest)))
 
-  pub turn-onward : (me : Worker) → InControl Q me.control → InFrames Q me.frames →
-      OnSome Onward-in (turn_of g s me)
-  turn-onward me q h = turn-with-onward me me.control q h
+  pub turn_onward : (me : Worker) → InControl Q me.control → InFrames Q me.frames →
+      OnSome OnwardIn (turn_of g s me)
+  turn_onward me q h = turn_with_onward me me.control q h

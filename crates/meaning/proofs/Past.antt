@@ -107,8 +107,8 @@ from_no_time g s w c (other m n f vs d e) =
     subst (λ (z : Control). time_of z ≡ none) (entered_is g m n f vs c e).4 refl
 
 module _ (n : ℕ) (s : System) (i : Numbered s) where
-  pub past-start : Past n s s
-  past-start = record {
+  pub past_start : Past n s s
+  past_start = record {
     numbered = i;
     next = omega arith;
     clock = refl;
@@ -132,8 +132,8 @@ module _ (n : ℕ) (s : System) (i : Numbered s) where
     fresh = λ q x d h e. p.fresh q x d h (sym (ap (λ ws. find ws q) a) ∙ e);
   }
 
-  pub past-own : (t : System) (f : Worker → Worker) → KeepsNumber f → Past n s t → Past n s (on_worker t n f)
-  past-own t f k p = record {
+  pub past_own : (t : System) (f : Worker → Worker) → KeepsNumber f → Past n s t → Past n s (on_worker t n f)
+  past_own t f k p = record {
     numbered = (
       apart-change t.workers n f k p.numbered.0,
       λ q l. find-change_none t.workers n q f k
@@ -147,9 +147,9 @@ module _ (n : ℕ) (s : System) (i : Numbered s) where
     fresh = λ q x d h e. p.fresh q x d h (sym (find-change_other t.workers n q f k d) ∙ e);
   }
 
-  gentle-undisturbed : (ws : List Worker) (m : ℕ) (f : Worker → Worker) → Gentle f → (q : ℕ) (w : Worker) →
+  gentle_undisturbed : (ws : List Worker) (m : ℕ) (f : Worker → Worker) → Gentle f → (q : ℕ) (w : Worker) →
       find ws q ≡ some w → UndisturbedOrGone w (find (change ws m f) q)
-  gentle-undisturbed ws m f k q w h = go (equal_or_not q m)
+  gentle_undisturbed ws m f k q w h = go (equal_or_not q m)
     where
       go : (q ≡ m) ⊎ (q ≡ m → ⊥) → UndisturbedOrGone w (find (change ws m f) q)
       go (inl e) = subst (λ z. UndisturbedOrGone w (find (change ws z f) q)) e
@@ -157,8 +157,8 @@ module _ (n : ℕ) (s : System) (i : Numbered s) where
       go (inr d) = subst (UndisturbedOrGone w) (sym (find-change_other ws m q f (λ x. (k x).0) d ∙ h))
           (undisturbed_same w)
 
-  pub past-gentle : (t : System) (m : ℕ) (f : Worker → Worker) → Gentle f → Past n s t → Past n s (on_worker t m f)
-  past-gentle t m f k p = record {
+  pub past_gentle : (t : System) (m : ℕ) (f : Worker → Worker) → Gentle f → Past n s t → Past n s (on_worker t m f)
+  past_gentle t m f k p = record {
     numbered = (
       apart-change t.workers m f
           (λ x. (k x).0) p.numbered.0,
@@ -169,24 +169,24 @@ module _ (n : ℕ) (s : System) (i : Numbered s) where
     clock = p.clock;
     others = λ q w d h. undisturbed_after w (find t.workers q) (find (change t.workers m f) q)
         (p.others q w d h) (find-change_none t.workers m q f (λ x. (k x).0))
-        (λ x e. gentle-undisturbed t.workers m f k q x e);
+        (λ x e. gentle_undisturbed t.workers m f k q x e);
     ends = λ q l h. find-change_none t.workers m q f (λ x. (k x).0) (p.ends q l h);
     fresh = λ q x d h e. fresh-after (find t.workers q) (find (change t.workers m f) q) x
-        (find-change_none t.workers m q f (λ y. (k y).0)) (λ y b. gentle-undisturbed t.workers m f k q y b) e
+        (find-change_none t.workers m q f (λ y. (k y).0)) (λ y b. gentle_undisturbed t.workers m f k q y b) e
         (λ y b. p.fresh q y d h b);
   }
 
-  gone-undisturbed : (ws : List Worker) (m : ℕ) → Apart ws → (q : ℕ) (w : Worker) → find ws q ≡ some w →
+  gone_undisturbed : (ws : List Worker) (m : ℕ) → Apart ws → (q : ℕ) (w : Worker) → find ws q ≡ some w →
       UndisturbedOrGone w (find (gone ws m) q)
-  gone-undisturbed ws m a q w h = go (equal_or_not q m)
+  gone_undisturbed ws m a q w h = go (equal_or_not q m)
     where
       go : (q ≡ m) ⊎ (q ≡ m → ⊥) → UndisturbedOrGone w (find (gone ws m) q)
       go (inl e) = subst (λ z. UndisturbedOrGone w (find (gone ws z) q)) e
           (subst (UndisturbedOrGone w) (sym (find-gone-same ws q a)) tt)
       go (inr d) = subst (UndisturbedOrGone w) (sym (find-gone_other ws m q d ∙ h)) (undisturbed_same w)
 
-  pub past-ended : (t : System) (x : Worker) (r : Value) → Past n s t → Past n s (ended t x r)
-  past-ended t x r p = record {
+  pub past_ended : (t : System) (x : Worker) (r : Value) → Past n s t → Past n s (ended t x r)
+  past_ended t x r p = record {
     numbered = (
       apart-gone t.workers x.pid p.numbered.0,
       λ q l. find-gone_none t.workers x.pid q
@@ -196,15 +196,15 @@ module _ (n : ℕ) (s : System) (i : Numbered s) where
     clock = p.clock;
     others = λ q w d h. undisturbed_after w (find t.workers q) (find (gone t.workers x.pid) q)
         (p.others q w d h) (find-gone_none t.workers x.pid q)
-        (λ y e. gone-undisturbed t.workers x.pid p.numbered.0 q y e);
+        (λ y e. gone_undisturbed t.workers x.pid p.numbered.0 q y e);
     ends = λ q l h. find-gone_none t.workers x.pid q (p.ends q l h);
     fresh = λ q y d h e. fresh-after (find t.workers q) (find (gone t.workers x.pid) q) y
         (find-gone_none t.workers x.pid q)
-        (λ z b. gone-undisturbed t.workers x.pid p.numbered.0 q z b) e (λ z b. p.fresh q z d h b);
+        (λ z b. gone_undisturbed t.workers x.pid p.numbered.0 q z b) e (λ z b. p.fresh q z d h b);
   }
 
-  pub past-new : (t : System) (c : Control) → time_of c ≡ none → Past n s t → Past n s (with_new t c)
-  past-new t c young p = record {
+  pub past_new : (t : System) (c : Control) → time_of c ≡ none → Past n s t → Past n s (with_new t c)
+  past_new t c young p = record {
     numbered = (
       apart_new t.workers new (p.numbered.1 t.next (omega arith)) p.numbered.0,
       λ q l.
@@ -249,30 +249,30 @@ module _ (n : ℕ) (s : System) (i : Numbered s) where
 -- one clause for each effect
 effect_past : (g : Program) (s : System) (w : Scope) (n : ℕ) (i : Numbered s) {t : System} → Effect g s w n t →
     Past n s t
-effect_past g s w n i nothing = past-start n s i
-effect_past g s w n i (took ms) = past-own n s i s (set_mail ms) (λ x. refl) (past-start n s i)
-effect_past g s w n i (spawned c f) = past-new n s i s c (from_no_time g s w c f) (past-start n s i)
-effect_past g s w n i (showed l) = past_same n s i s (with_line s l) refl refl refl (past-start n s i)
-effect_past g s w n i (sent q v) = past-gentle n s i s q (add_mail v) (gentle_mail v) (past-start n s i)
+effect_past g s w n i nothing = past_start n s i
+effect_past g s w n i (took ms) = past_own n s i s (set_mail ms) (λ x. refl) (past_start n s i)
+effect_past g s w n i (spawned c f) = past_new n s i s c (from_no_time g s w c f) (past_start n s i)
+effect_past g s w n i (showed l) = past_same n s i s (with_line s l) refl refl refl (past_start n s i)
+effect_past g s w n i (sent q v) = past_gentle n s i s q (add_mail v) (gentle_mail v) (past_start n s i)
 effect_past g s w n i (linked q x d e) =
-    past-gentle n s i (on_worker s n (add_link q)) q (add_link n) (gentle_link n)
-    (past-gentle n s i s n (add_link q) (gentle_link q) (past-start n s i))
-effect_past g s w n i (linked_gone q d e) = past_same n s i s _ refl refl refl (past-start n s i)
-effect_past g s w n i (exited q r) = past_same n s i s _ refl refl refl (past-start n s i)
-effect_past g s w n i (trapped b) = past-gentle n s i s n (set_traps b) (gentle_traps b) (past-start n s i)
-effect_past g s w n i (named x) = past_same n s i s (with_name s x n) refl refl refl (past-start n s i)
+    past_gentle n s i (on_worker s n (add_link q)) q (add_link n) (gentle_link n)
+    (past_gentle n s i s n (add_link q) (gentle_link q) (past_start n s i))
+effect_past g s w n i (linked_gone q d e) = past_same n s i s _ refl refl refl (past_start n s i)
+effect_past g s w n i (exited q r) = past_same n s i s _ refl refl refl (past_start n s i)
+effect_past g s w n i (trapped b) = past_gentle n s i s n (set_traps b) (gentle_traps b) (past_start n s i)
+effect_past g s w n i (named x) = past_same n s i s (with_name s x n) refl refl refl (past_start n s i)
 
 swapped_past : (s : System) (n : ℕ) (i : Numbered s) (x : Name) (m : ℕ) → Past n s (swapped s x m)
 swapped_past s n i x m = swapped_all (Past n s)
-    (λ t w p. past-ended n s i t w (v_atom a_old) p) s x m
-    (past_same n s i s (with_version s x (m + 1)) refl refl refl (past-start n s i))
+    (λ t w p. past_ended n s i t w (v_atom a_old) p) s x m
+    (past_same n s i s (with_version s x (m + 1)) refl refl refl (past_start n s i))
 
 turned_past : (g : Program) (s : System) (me : Worker) (o : Outcome) → Numbered s → Turned g s me o →
     OnIs (Past me.pid s) (settle me.pid o)
 turned_past g s me o i (turn_goes c k w {t} d) =
-    past-own me.pid s i t (set_control c k) (λ x. refl) (effect_past g s w me.pid i d)
-turned_past g s me o i (turn_ends r e) = past-ended me.pid s i s me r (past-start me.pid s i)
-turned_past g s me o i (turn_swaps c k x m y d f e) = past-own me.pid s i (swapped s x m) (set_control c k)
+    past_own me.pid s i t (set_control c k) (λ x. refl) (effect_past g s w me.pid i d)
+turned_past g s me o i (turn_ends r e) = past_ended me.pid s i s me r (past_start me.pid s i)
+turned_past g s me o i (turn_swaps c k x m y d f e) = past_own me.pid s i (swapped s x m) (set_control c k)
     (λ z. refl) (swapped_past s me.pid i x m)
 turned_past g s me o i (turn_swapped_out x m d f e) = swapped_past s me.pid i x m
 turned_past g s me o i turn_stuck = tt
@@ -290,11 +290,11 @@ after_signal g s t n i h = on_is_of (Past n s) (deliver s s.signals) t
     (λ x gs w e f. taken (with_signals s gs) x w (plain gs))) h
   where
     plain : (gs : List Signal) → Past n s (with_signals s gs)
-    plain gs = past_same n s i s (with_signals s gs) refl refl refl (past-start n s i)
+    plain gs = past_same n s i s (with_signals s gs) refl refl refl (past_start n s i)
 
     taken : (u : System) (x : Signal) (w : Worker) → Past n s u → Past n s (take_signal u x w)
     taken u x w p = take_signal_all (Past n s) u x w
-        (past-gentle n s i u w.pid (add_mail (exit_message x)) (gentle_mail (exit_message x)) p)
-        (past-gentle n s i (on_worker u w.pid (cut_link x.from)) x.from (cut_link w.pid)
-        (gentle_cut w.pid) (past-gentle n s i u w.pid (cut_link x.from) (gentle_cut x.from) p))
-        (past-ended n s i u w x.reason p)
+        (past_gentle n s i u w.pid (add_mail (exit_message x)) (gentle_mail (exit_message x)) p)
+        (past_gentle n s i (on_worker u w.pid (cut_link x.from)) x.from (cut_link w.pid)
+        (gentle_cut w.pid) (past_gentle n s i u w.pid (cut_link x.from) (gentle_cut x.from) p))
+        (past_ended n s i u w x.reason p)

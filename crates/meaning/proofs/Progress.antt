@@ -29,12 +29,12 @@ use Rattle.meaning.proofs.Quiet.{somebody_can}
 use Rattle.meaning.proofs.Results.{turn_found}
 
 due_or_not : (s : System) (q : ℕ) → Due s q ⊎ (Due s q → ⊥)
-due_or_not s q = of-worker (find s.workers q) refl
+due_or_not s q = of_worker (find s.workers q) refl
   where
-    of-clock : (w : Worker) → find s.workers q ≡ some w → (u : ℕ) → time_of w.control ≡ some u →
+    of_clock : (w : Worker) → find s.workers q ≡ some w → (u : ℕ) → time_of w.control ≡ some u →
         Dec (u ≤ s.clock) → Due s q ⊎ (Due s q → ⊥)
-    of-clock w f u e (yes l) = inl (w, u, f, e, l)
-    of-clock w f u e (no h) = inr (λ d. other d)
+    of_clock w f u e (yes l) = inl (w, u, f, e, l)
+    of_clock w f u e (no h) = inr (λ d. other d)
       where
         other : Due s q → ⊥
         other (x, v, f', e', l) =
@@ -42,17 +42,17 @@ due_or_not s q = of-worker (find s.workers q) refl
             let z : u ≡ v = cc (ap (λ k. time_of k.control) y) in
             h (omega arith)
 
-    of-time : (w : Worker) → find s.workers q ≡ some w → (o : Option ℕ) → time_of w.control ≡ o →
+    of_time : (w : Worker) → find s.workers q ≡ some w → (o : Option ℕ) → time_of w.control ≡ o →
         Due s q ⊎ (Due s q → ⊥)
-    of-time w f none e = inr (λ d. other d)
+    of_time w f none e = inr (λ d. other d)
       where
         other : Due s q → ⊥
         other (x, v, f', e', l) = let y : w ≡ x = cc in impossible (cc (ap (λ k. time_of k.control) y))
-    of-time w f (some u) e = of-clock w f u e (dec_le u s.clock)
+    of_time w f (some u) e = of_clock w f u e (dec_le u s.clock)
 
-    of-worker : (o : Option Worker) → find s.workers q ≡ o → Due s q ⊎ (Due s q → ⊥)
-    of-worker none e = inr (λ d. let f = d.2 in impossible (cc))
-    of-worker (some w) e = of-time w e (time_of w.control) refl
+    of_worker : (o : Option Worker) → find s.workers q ≡ o → Due s q ⊎ (Due s q → ⊥)
+    of_worker none e = inr (λ d. let f = d.2 in impossible (cc))
+    of_worker (some w) e = of_time w e (time_of w.control) refl
 
 pub quiet_now : (g : Program) (s : System) (k : ℕ) → Good g s (flush k) (round ∷ []) → s.signals ≡ [] →
     first_time s.workers ≡ none → quiet g s ≡ true
@@ -89,7 +89,7 @@ turn_soon g s n k es i b = go (move g s (turn n)) refl
     go : (r : Result) → move g s (turn n) ≡ r → Soon g s (serve n (suc k)) es ⊎ NoMeaning g s
     go not_allowed e = absurd (turn_allowed g s n (i.exact.able n (zero, here)) e)
     go no_meaning e = inr (n, e)
-    go (is t) e = inl (after-it (could_or_not g t n) (due_or_not t n))
+    go (is t) e = inl (after_it (could_or_not g t n) (due_or_not t n))
       where
         w : Woken g n s t (those (newly_could g n s t) t.workers)
         w = woken_all g n s t (after_turn g s t n i.numbered e).numbered
@@ -98,20 +98,20 @@ turn_soon g s n k es i b = go (move g s (turn n)) refl
         on c d (inr (h, d₀)) = absurd (due_once g s t n d₀ e d)
         on c d (inl h) =
             let y = turn_on g s t n k es (those (newly_could g n s t) t.workers) i e w c in
-            now y.0 y.1 (left-of (dec_le 2 k))
+            now y.0 y.1 (left_of (dec_le 2 k))
           where
-            left-of : Dec (2 ≤ k) → (2 ≤ k) ⊎ ((k ≡ 1) × Due t n)
-            left-of (yes l) = inl l
-            left-of (no f) = inr (omega arith, d)
+            left_of : Dec (2 ≤ k) → (2 ≤ k) ⊎ ((k ≡ 1) × Due t n)
+            left_of (yes l) = inl l
+            left_of (no f) = inr (omega arith, d)
 
-        after-it : Could g t n ⊎ (Could g t n → ⊥) → Due t n ⊎ (Due t n → ⊥) → Soon g s (serve n (suc k)) es
-        after-it (inr f) d =
+        after_it : Could g t n ⊎ (Could g t n → ⊥) → Due t n ⊎ (Due t n → ⊥) → Soon g s (serve n (suc k)) es
+        after_it (inr f) d =
             let y = turn_over g s t n k es (those (newly_could g n s t) t.workers) i e w f in
             now y.0 y.1 tt
-        after-it (inl c) (inr f) =
+        after_it (inl c) (inr f) =
             let y = turn_back g s t n k es (those (newly_could g n s t) t.workers) i e w c f in
             now y.0 y.1 tt
-        after-it (inl c) (inl d) = on c d b
+        after_it (inl c) (inl d) = on c d b
 
 pop_soon : (g : Program) (s : System) (k p : ℕ) (es : List Entry) → Good g s (flush k) (worker p ∷ es) → Idle s k →
     Soon g s (flush k) (worker p ∷ es) ⊎ NoMeaning g s
@@ -126,17 +126,17 @@ signal_soon : (g : Program) (s : System) (k : ℕ) (es : List Entry) (x : Signal
     s.signals ≡ x ∷ gs → Good g s (flush (suc k)) es → Soon g s (flush (suc k)) es
 signal_soon g s k es x gs h i = go (find s.workers x.to) refl
   where
-    with-t : (t : System) → move g s signal ≡ is t → Soon g s (flush (suc k)) es
-    with-t t e =
+    with_t : (t : System) → move g s signal ≡ is t → Soon g s (flush (suc k)) es
+    with_t t e =
         let w = woken_all g t.next s t (after_signal g s t t.next i.numbered e).numbered in
         let y = signalled g s t k es (those (newly_could g t.next s t) t.workers) i e w in
         now y.0 y.1 tt
 
     go : (o : Option Worker) → find s.workers x.to ≡ o → Soon g s (flush (suc k)) es
-    go none e = with-t (with_signals s gs)
+    go none e = with_t (with_signals s gs)
         (ap (deliver s) h ∙ ap (λ o. opt o (is (with_signals s gs)) (λ w. is (take_signal (with_signals s gs) x w)))
         e)
-    go (some w) e = with-t (take_signal (with_signals s gs) x w)
+    go (some w) e = with_t (take_signal (with_signals s gs) x w)
         (ap (deliver s) h ∙ ap (λ o. opt o (is (with_signals s gs)) (λ w. is (take_signal (with_signals s gs) x w)))
         e)
 

@@ -30,9 +30,9 @@ At-none a = elim a as (λ n es b. is_none es → ⊥) [ here ↦ λ e. e | there
     is_none [] = Unit {0}
     is_none (x ∷ es) = ⊥
 
-pub At_append : {x : Entry} {n : ℕ} {es : List Entry} (fs : List Entry) → At x n es → At x n (es ++ fs)
-At_append fs here = here
-At_append fs (there a) = there (At_append fs a)
+pub At-append : {x : Entry} {n : ℕ} {es : List Entry} (fs : List Entry) → At x n es → At x n (es ++ fs)
+At-append fs here = here
+At-append fs (there a) = there (At-append fs a)
 
 pub At-length : {x : Entry} {n : ℕ} {es : List Entry} → At x n es → n < length es
 At-length {es = es} here = omega arith
@@ -59,7 +59,7 @@ pub Mem-one : {x y : Entry} → Mem x (y ∷ []) → x ≡ y
 Mem-one {x} {y} m = elim (Mem-cases m) [ inl e ↦ e | inr a ↦ absurd (At-none a.1) ]
 
 pub Mem-left : {x : Entry} {es : List Entry} (fs : List Entry) → Mem x es → Mem x (es ++ fs)
-Mem-left fs (n, a) = (n, At_append fs a)
+Mem-left fs (n, a) = (n, At-append fs a)
 
 pub Mem-right : {x : Entry} (es : List Entry) {fs : List Entry} → Mem x fs → Mem x (es ++ fs)
 Mem-right [] m = m
@@ -155,9 +155,9 @@ pub Before-mem : {x y : Entry} {es : List Entry} → Before x y es → Mem y es
 Before-mem {x} (first m) = Mem-behind x m
 Before-mem (next {z = z} b) = Mem-behind z (Before-mem b)
 
-pub Before_append : {x y : Entry} {es : List Entry} (fs : List Entry) → Before x y es → Before x y (es ++ fs)
-Before_append fs (first m) = first (Mem-left fs m)
-Before_append fs (next b) = next (Before_append fs b)
+pub Before-append : {x y : Entry} {es : List Entry} (fs : List Entry) → Before x y es → Before x y (es ++ fs)
+Before-append fs (first m) = first (Mem-left fs m)
+Before-append fs (next b) = next (Before-append fs b)
 
 pub Before_last : (x y : Entry) (es : List Entry) → Mem x es → Before x y (es ++ (y ∷ []))
 Before_last x y [] m = absurd (At-none m.1)
@@ -233,26 +233,26 @@ pull n (y ∷ es) d = go (worker_or_not n y) (pull n es d.1)
         other z (inr m) = (Mem-behind y (r.from z m).0, (r.from z m).1)
 
 module _ (g : Program) (s : System) where
-  abbrev Can-among : List Worker → ℕ → Type 0
-  Can-among ws p = (w : Worker) × (find ws p ≡ some w) × (can g s w ≡ true)
+  abbrev CanAmong : List Worker → ℕ → Type 0
+  CanAmong ws p = (w : Worker) × (find ws p ≡ some w) × (can g s w ≡ true)
 
-  no-workers-bounded : (es : List Entry) → Distinct es → ((p : ℕ) → Mem (worker p) es → ⊥) → length es ≤ 1
-  no-workers-bounded [] d f = omega arith
-  no-workers-bounded (worker p ∷ es) d f = absurd (f p (zero, here))
-  no-workers-bounded (round ∷ []) d f = omega arith
-  no-workers-bounded (round ∷ worker p ∷ es) d f = absurd (f p (Mem-behind round (zero, here)))
-  no-workers-bounded (round ∷ round ∷ es) d f = absurd (d.0 (zero, here))
+  no_workers_bounded : (es : List Entry) → Distinct es → ((p : ℕ) → Mem (worker p) es → ⊥) → length es ≤ 1
+  no_workers_bounded [] d f = omega arith
+  no_workers_bounded (worker p ∷ es) d f = absurd (f p (zero, here))
+  no_workers_bounded (round ∷ []) d f = omega arith
+  no_workers_bounded (round ∷ worker p ∷ es) d f = absurd (f p (Mem-behind round (zero, here)))
+  no_workers_bounded (round ∷ round ∷ es) d f = absurd (d.0 (zero, here))
 
-  pub queue-bounded : (ws : List Worker) (es : List Entry) → Distinct es →
-      ((p : ℕ) → Mem (worker p) es → Can-among ws p) → length es ≤ 1 + able g s ws
-  queue-bounded [] es d c = let h = no-workers-bounded es d (λ p m. impossible (cc (c p m).1)) in omega arith
-  queue-bounded (w ∷ ws) es d c = go (pull w.pid es d) (λ fs. queue-bounded ws fs)
+  pub queue_bounded : (ws : List Worker) (es : List Entry) → Distinct es →
+      ((p : ℕ) → Mem (worker p) es → CanAmong ws p) → length es ≤ 1 + able g s ws
+  queue_bounded [] es d c = let h = no_workers_bounded es d (λ p m. impossible (cc (c p m).1)) in omega arith
+  queue_bounded (w ∷ ws) es d c = go (pull w.pid es d) (λ fs. queue_bounded ws fs)
     where
-      past : (p : ℕ) → (p ≡ w.pid → ⊥) → Can-among (w ∷ ws) p → Can-among ws p
+      past : (p : ℕ) → (p ≡ w.pid → ⊥) → CanAmong (w ∷ ws) p → CanAmong ws p
       past p f h = (h.0, sym (find_there w ws p (λ e. f (sym e))) ∙ h.1, h.2)
 
       go : (Mem (worker w.pid) es → ⊥) ⊎ Pulled w.pid es →
-          ((fs : List Entry) → Distinct fs → ((p : ℕ) → Mem (worker p) fs → Can-among ws p) →
+          ((fs : List Entry) → Distinct fs → ((p : ℕ) → Mem (worker p) fs → CanAmong ws p) →
           length fs ≤ 1 + able g s ws) → length es ≤ 1 + able g s (w ∷ ws)
       go (inl h) ih =
           let k : length es ≤ 1 + able g s ws =

@@ -67,29 +67,29 @@ quiet_no_move g s h m u e = go m e
     idle : (not (any_can g s s.workers) ≡ true) × (no_later_time s ≡ true)
     idle = and_true (not (any_can g s s.workers)) (no_later_time s) parts.1
 
-    no-delivery : (gs : List Signal) → no_signals gs ≡ true → deliver s gs ≡ is u → ⊥
-    no-delivery [] i d = not_allowed_is d
-    no-delivery (x ∷ gs) i d = no_clash i refl
+    no_delivery : (gs : List Signal) → no_signals gs ≡ true → deliver s gs ≡ is u → ⊥
+    no_delivery [] i d = not_allowed_is d
+    no_delivery (x ∷ gs) i d = no_clash i refl
 
-    no-tick : (o : Option ℕ) → opt o true (λ t. leb t s.clock) ≡ true →
+    no_tick : (o : Option ℕ) → opt o true (λ t. leb t s.clock) ≡ true →
         opt o not_allowed (λ t. cond (ltb s.clock t) (is (with_clock s t)) not_allowed) ≡ is u → ⊥
-    no-tick none i d = not_allowed_is d
-    no-tick (some t) i d = cond_all (λ r. r ≡ is u → ⊥) (ltb s.clock t) (is (with_clock s t)) not_allowed
+    no_tick none i d = not_allowed_is d
+    no_tick (some t) i d = cond_all (λ r. r ≡ is u → ⊥) (ltb s.clock t) (is (with_clock s t)) not_allowed
         (λ j c. let y = leb→le t s.clock (T_of i) in let z = ltb→lt s.clock t (T_of j) in omega arith)
         (λ j c. not_allowed_is c) d
 
-    no-turn : (n : ℕ) (w : Worker) → find s.workers n ≡ some w → (o : Option Outcome) → turn_of g s w ≡ o →
+    no_turn : (n : ℕ) (w : Worker) → find s.workers n ≡ some w → (o : Option Outcome) → turn_of g s w ≡ o →
         opt o not_allowed (settle n) ≡ is u → ⊥
-    no-turn n w f none i d = not_allowed_is d
-    no-turn n w f (some o) i d = no_clash (ap (λ (y : Option Outcome). opt y false (λ z. true)) i)
+    no_turn n w f none i d = not_allowed_is d
+    no_turn n w f (some o) i d = no_clash (ap (λ (y : Option Outcome). opt y false (λ z. true)) i)
         (nobody_can g s s.workers n w (not-true (any_can g s s.workers) idle.0) f)
 
     go : (m : Move) → move g s m ≡ is u → ⊥
     go (turn n) d = opt_all (λ r. r ≡ is u → ⊥) (find s.workers n) not_allowed
         (λ w. opt (turn_of g s w) not_allowed (settle n)) (λ i c. not_allowed_is c)
-        (λ w i c. no-turn n w i (turn_of g s w) refl c) d
-    go signal d = no-delivery s.signals parts.0 d
-    go tick d = no-tick (first_time s.workers) idle.1 d
+        (λ w i c. no_turn n w i (turn_of g s w) refl c) d
+    go signal d = no_delivery s.signals parts.0 d
+    go tick d = no_tick (first_time s.workers) idle.1 d
 
 -- what is not quiet has a move: a signal, somebody's turn, or the clock's
 abbrev HasMove : Program → System → Type 0
@@ -148,10 +148,10 @@ some_move g gd s sd good h = go
     go (inr a) = idle (and_false (not (any_can g s s.workers)) (no_later_time s) a)
 
 pub quiet_means : QuietMeans
-quiet_means t g l s rd r = (quiet_no_move g s, λ no_move. is_true (quiet g s) (true-if no_move))
+quiet_means t g l s rd r = (quiet_no_move g s, λ no_move. is_true (quiet g s) (true_if no_move))
   where
-    true-if : ((m : Move) (u : System) → move g s m ≡ is u → ⊥) → T (quiet g s)
-    true-if no_move = bool_all (λ b. quiet g s ≡ b → T b) (quiet g s) (λ e i. tt)
+    true_if : ((m : Move) (u : System) → move g s m ≡ is u → ⊥) → T (quiet g s)
+    true_if no_move = bool_all (λ b. quiet g s ≡ b → T b) (quiet g s) (λ e i. tt)
         (λ e i. let good = reads_good t g rd in
         let y = some_move g good s (reached_sound g l s r) (reached_good g good l s r) e in
         absurd (no_move y.0 y.1 y.2)) refl

@@ -21,7 +21,7 @@ use Rattle.meaning.specs.Promise.{Begins, Reached}
 use Rattle.meaning.specs.Effects.{Turned}
 use Rattle.meaning.proofs.Splits.{opt_all, OnSome, cond_all, and_T, same_refl, T_of}
 use Rattle.meaning.proofs.Finding.{find_pid}
-use Rattle.meaning.proofs.Effects.{turn-view}
+use Rattle.meaning.proofs.Effects.{turn_view}
 
 -- what holds of every system that a result is; N stands for having no meaning
 abbrev pub OnResult : (System → Type 0) → Type 0 → Result → Type 0
@@ -71,12 +71,12 @@ moves-append g s (x ∷ l) r = go (move g s x) (λ t. moves-append g t l r)
 pub turn_all : (g : Program) (s : System) (n : ℕ) (P : Result → Type 0) → P not_allowed →
     ((me : Worker) (o : Outcome) → me.pid ≡ n → find s.workers me.pid ≡ some me → turn_of g s me ≡ some o →
     Turned g s me o → P (settle n o)) → P (move g s (turn n))
-turn_all g s n P no-turn f = opt_all P (find s.workers n) not_allowed
-    (λ w. opt (turn_of g s w) not_allowed (settle n)) (λ e. no-turn)
-    (λ w e. opt_all P (turn_of g s w) not_allowed (settle n) (λ d. no-turn)
+turn_all g s n P no_turn f = opt_all P (find s.workers n) not_allowed
+    (λ w. opt (turn_of g s w) not_allowed (settle n)) (λ e. no_turn)
+    (λ w e. opt_all P (turn_of g s w) not_allowed (settle n) (λ d. no_turn)
     (λ o d. let p = find_pid s.workers n w e in
     f w o p (subst (λ (z : ℕ). find s.workers z ≡ some w) (sym p) e) d
-    (subst (OnSome (Turned g s w)) d (turn-view g s w))))
+    (subst (OnSome (Turned g s w)) d (turn_view g s w))))
 
 -- the turn of a worker that is there
 pub turn_found : (g : Program) (s : System) (n : ℕ) (w : Worker) → find s.workers n ≡ some w →
@@ -146,11 +146,11 @@ reached_all g P start step l s r =
 pub begins : Begins
 begins t g r = go g (and_T (has_main g) (sound_modules g) r.sound).0
   where
-    main-of : (m : Module) (ms : Program) (o : Option Function) → function_of m.functions a_main 0 ≡ o →
+    main_of : (m : Module) (ms : Program) (o : Option Function) → function_of m.functions a_main 0 ≡ o →
         T (not (opt o true (λ f. false))) → (s : System) × (begin (m ∷ ms) ≡ some s)
-    main-of m ms none e h = absurd h
-    main-of m ms (some f) e h = rw (same_refl m.name, e) (_, refl)
+    main_of m ms none e h = absurd h
+    main_of m ms (some f) e h = rw (same_refl m.name, e) (_, refl)
 
     go : (g : Program) → T (has_main g) → (s : System) × (begin g ≡ some s)
     go [] h = absurd h
-    go (m ∷ ms) h = main-of m ms (function_of m.functions a_main 0) refl h
+    go (m ∷ ms) h = main_of m ms (function_of m.functions a_main 0) refl h

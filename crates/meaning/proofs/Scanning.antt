@@ -31,10 +31,10 @@ module _ (b : Worker → Bool) where
   wider : (w : Worker) (ws : List Worker) → Apart (w ∷ ws) → (x : Entry) → Has ws x → Has (w ∷ ws) x
   wider w ws a x (q, y, e, f, c) = (q, y, e, find-behind w ws q y a f, c)
 
-  those-in : (ws : List Worker) → Apart ws → (x : Entry) → Mem x (those b ws) → Has ws x
+  those_in : (ws : List Worker) → Apart ws → (x : Entry) → Mem x (those b ws) → Has ws x
   unfolding those
-  those-in [] a x m = absurd (At-none m.1)
-  those-in (w ∷ ws) a x m = go (b w) refl m (those-in ws a.1 x)
+  those_in [] a x m = absurd (At-none m.1)
+  those_in (w ∷ ws) a x m = go (b w) refl m (those_in ws a.1 x)
     where
       go : (c : Bool) → b w ≡ c → Mem x (cond c (worker w.pid ∷ those b ws) (those b ws)) →
           (Mem x (those b ws) → Has ws x) → Has (w ∷ ws) x
@@ -45,14 +45,14 @@ module _ (b : Worker → Bool) where
           side (inl d) = (w.pid, w, d, find_here w ws w.pid refl, e)
           side (inr d) = wider w ws a x (ih d)
 
-  those-once : (ws : List Worker) → Apart ws → Distinct (those b ws)
+  those_once : (ws : List Worker) → Apart ws → Distinct (those b ws)
   unfolding those
-  those-once [] a = tt
-  those-once (w ∷ ws) a = go (b w) (those-once ws a.1)
+  those_once [] a = tt
+  those_once (w ∷ ws) a = go (b w) (those_once ws a.1)
     where
       none_of : Mem (worker w.pid) (those b ws) → ⊥
       none_of m =
-          let y = those-in ws a.1 (worker w.pid) m in
+          let y = those_in ws a.1 (worker w.pid) m in
           let e : y.0 ≡ w.pid = cc y.2 in
           impossible (cc (ap (find ws) e, y.3, a.0))
 
@@ -86,8 +86,8 @@ pub woken_those : (g : Program) (n : ℕ) (s t : System) (b : Worker → Bool) �
     ((q : ℕ) (w : Worker) → find t.workers q ≡ some w → (q ≡ n → ⊥) → can g t w ≡ true →
     Could g s q ⊎ (b w ≡ true)) → Woken g n s t (those b t.workers)
 woken_those g n s t b a each all = record {
-  once = those-once b t.workers a;
-  each = λ x m. let y = those-in b t.workers a x m in
+  once = those_once b t.workers a;
+  each = λ x m. let y = those_in b t.workers a x m in
       let z = each y.0 y.1 y.3 y.4 in (y.0, y.2, z.0, (y.1, y.3, z.1), z.2);
   all = λ q d c. elim (all q c.0 c.1 d c.2)
       [ inl h ↦ inl h | inr h ↦ inr (those-has b t.workers q c.0 c.1 h) ];

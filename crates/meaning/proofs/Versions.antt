@@ -21,8 +21,8 @@ use Rattle.meaning.specs.Promise.{ahead_scope, Reached, TwoVersions, ahead_contr
 use Rattle.meaning.specs.Promise.{NoneAhead}
 use Rattle.meaning.specs.Effects.{Turned, turn_goes, turn_ends, turn_swaps, turn_swapped_out, turn_stuck}
 use Rattle.meaning.proofs.OwnCode.{any_scope, any_frame, any_code, control_scope, frame_scope, none_in_code}
-use Rattle.meaning.proofs.OwnCode.{kept_in_code, EveryWorker, within-every, settle-every, signal-every, Onward}
-use Rattle.meaning.proofs.OwnCode.{InControl, InFrames, entered_in, turn-onward}
+use Rattle.meaning.proofs.OwnCode.{kept_in_code, EveryWorker, within_every, settle_every, signal_every, Onward}
+use Rattle.meaning.proofs.OwnCode.{InControl, InFrames, entered_in, turn_onward}
 use Rattle.meaning.proofs.Splits.{or_both, T_of, is_false, no_clash, cond_all, opt_all, cond-false, bool_all, some_is}
 use Rattle.meaning.proofs.Splits.{none_some, same_is, same_refl, OnSome, same_and_false}
 use Rattle.meaning.proofs.Links.{Sound, move-sound, first_sound}
@@ -147,10 +147,10 @@ turned_spans g s n me o u e (turn_goes c k w {t} d) go h =
     let r = go (Span s.loaded) (span_now s.loaded) mine.0 mine.1 in
     subst (λ (ls : List Loaded). EveryIn (Span ls) (change t.workers n (set_control c k)))
     (sym (effect_bounds g s w me.pid t d).0)
-    (settle-every (InControl (Span s.loaded)) (InFrames (Span s.loaded)) s t n c k tt r.2 h r.0
+    (settle_every (InControl (Span s.loaded)) (InFrames (Span s.loaded)) s t n c k tt r.2 h r.0
     r.1)
 turned_spans g s n me o u e (turn_ends r why) go h =
-    within-every (InControl (Span s.loaded)) (InFrames (Span s.loaded)) (gone s.workers me.pid)
+    within_every (InControl (Span s.loaded)) (InFrames (Span s.loaded)) (gone s.workers me.pid)
     s.workers (gone-within s.workers me.pid u) h
 turned_spans g s n me o u e (turn_swaps c k x m y d f wo) go h =
     let Q = Span (now_loaded s.loaded x (m + 1)) in
@@ -160,7 +160,7 @@ turned_spans g s n me o u e (turn_swaps c k x m y d f wo) go h =
     in
     let r = go Q (current-after_swap s x m d) still-mine.0 still-mine.1 in
     subst (λ (ls : List Loaded). EveryIn (Span ls) (change (swapped s x m).workers n (set_control c k)))
-    (sym (swapped_loaded s x m)) (settle-every (InControl Q) (InFrames Q) (swapped s x m) (swapped s x m) n c k
+    (sym (swapped_loaded s x m)) (settle_every (InControl Q) (InFrames Q) (swapped s x m) (swapped s x m) n c k
     tt (λ q z i. inl (z, i, refl, refl)) (swapped_spans s x m u d h) r.0 r.1)
 turned_spans g s n me o u e (turn_swapped_out x m d f wo) go h =
     subst (λ (ls : List Loaded). EveryIn (Span ls) (swapped s x m).workers) (sym (swapped_loaded s x m))
@@ -172,11 +172,11 @@ unfolding OnwardInAll
 move_spans g s (turn n) u h = turn_all g s n (OnIs Spans) tt
     (λ me o p e d v. turned_spans g s n me o u e v
     (λ Q now pc pk. subst (OnSome (Onward (InControl Q) (InFrames Q) (Unit {0}) s)) d
-    (turn-onward g s Q now u me pc pk)) h)
+    (turn_onward g s Q now u me pc pk)) h)
 move_spans g s signal u h = deliver_all Spans (Unit {0}) s s.signals (λ x gs i. h)
     (λ x gs w i e. subst (λ (ls : List Loaded). EveryIn (Span ls) (take_signal (with_signals s gs) x w).workers)
     (sym (take_signal_all (λ t. t.loaded ≡ s.loaded) (with_signals s gs) x w refl refl refl))
-    (signal-every (InControl (Span s.loaded)) (InFrames (Span s.loaded)) (with_signals s gs) x w u h))
+    (signal_every (InControl (Span s.loaded)) (InFrames (Span s.loaded)) (with_signals s gs) x w u h))
 move_spans g s tick u h = tick_all Spans (Unit {0}) s (λ t l. h)
 
 -- at first every module is in version 1

@@ -62,51 +62,51 @@ abbrev pub sent_and_changed : System → ℕ → ℕ → Value → (Worker → W
 sent_and_changed s n p v f = on_worker (on_worker s p (add_mail v)) n f
 
 module _ (g : Program) (n : ℕ) (s : System) (p : ℕ) (v : Value) (f : Worker → Worker) (k : KeepsNumber f) where
-  sent-leaves-others : (q : ℕ) → (q ≡ n → ⊥) → (q ≡ p → ⊥) →
+  sent_leaves_others : (q : ℕ) → (q ≡ n → ⊥) → (q ≡ p → ⊥) →
       find (sent_and_changed s n p v f).workers q ≡ find s.workers q
-  sent-leaves-others q d e = find-change_other (change s.workers p (add_mail v)) n q f k d
+  sent_leaves_others q d e = find-change_other (change s.workers p (add_mail v)) n q f k d
       ∙ find-change_other s.workers p q (add_mail v) (λ x. refl) e
 
-  pub sent-found : (w : Worker) → (p ≡ n → ⊥) → find s.workers p ≡ some w →
+  pub sent_found : (w : Worker) → (p ≡ n → ⊥) → find s.workers p ≡ some w →
       find (sent_and_changed s n p v f).workers p ≡ some (add_mail v w)
-  sent-found w d h = find-change_other (change s.workers p (add_mail v)) n p f k d
+  sent_found w d h = find-change_other (change s.workers p (add_mail v)) n p f k d
       ∙ find_changed s.workers p (add_mail v) w (λ x. refl) h
 
-  pub woken-by-message : (p ≡ n → ⊥) → Could g (sent_and_changed s n p v f) p → (Could g s p → ⊥) →
+  pub woken_by_message : (p ≡ n → ⊥) → Could g (sent_and_changed s n p v f) p → (Could g s p → ⊥) →
       Woken g n s (sent_and_changed s n p v f) (worker p ∷ [])
-  woken-by-message d c h = woken_one g n s (sent_and_changed s n p v f) p d c h
-      (λ q a b. could_as_before g s (sent_and_changed s n p v f) q refl (sent-leaves-others q a b))
+  woken_by_message d c h = woken_one g n s (sent_and_changed s n p v f) p d c h
+      (λ q a b. could_as_before g s (sent_and_changed s n p v f) q refl (sent_leaves_others q a b))
 
-  pub woken-by-no-message : (p ≡ n) ⊎ (Could g (sent_and_changed s n p v f) p → Could g s p) →
+  pub woken_by_no_message : (p ≡ n) ⊎ (Could g (sent_and_changed s n p v f) p → Could g s p) →
       Woken g n s (sent_and_changed s n p v f) []
-  woken-by-no-message o = woken_none g n s (sent_and_changed s n p v f) (λ q d c. go q d c o (equal_or_not q p))
+  woken_by_no_message o = woken_none g n s (sent_and_changed s n p v f) (λ q d c. go q d c o (equal_or_not q p))
     where
       go : (q : ℕ) → (q ≡ n → ⊥) → Could g (sent_and_changed s n p v f) q →
           (p ≡ n) ⊎ (Could g (sent_and_changed s n p v f) p → Could g s p) → (q ≡ p) ⊎ (q ≡ p → ⊥) → Could g s q
       go q d c (inl e) (inl b) = absurd (d (b ∙ e))
       go q d c (inr h) (inl b) = subst (Could g s) (sym b) (h (subst (Could g (sent_and_changed s n p v f)) b c))
-      go q d c o (inr b) = could_as_before g s (sent_and_changed s n p v f) q refl (sent-leaves-others q d b) c
+      go q d c o (inr b) = could_as_before g s (sent_and_changed s n p v f) q refl (sent_leaves_others q d b) c
 
 -- one that begins
 module _ (g : Program) (n : ℕ) (s : System) (i : Numbered s) (c : Control) (f : Worker → Worker) (k : KeepsNumber f)
     (low : n < s.next) (r : ready s.clock c [] ≡ true) where
-  abbrev new-worker : Worker
-  new-worker = record { pid = s.next; control = c; frames = []; mail = []; links = []; traps = false }
+  abbrev new_worker : Worker
+  new_worker = record { pid = s.next; control = c; frames = []; mail = []; links = []; traps = false }
 
-  new-found : find (on_worker (with_new s c) n f).workers s.next ≡ some new-worker
-  new-found = find-change_other (s.workers ++ (new-worker ∷ [])) n s.next f k
-      (λ e. apart e) ∙ find-append_none s.workers (new-worker ∷ []) s.next (i.1 s.next (omega arith))
-      ∙ find_here new-worker [] s.next refl
+  new_found : find (on_worker (with_new s c) n f).workers s.next ≡ some new_worker
+  new_found = find-change_other (s.workers ++ (new_worker ∷ [])) n s.next f k
+      (λ e. apart e) ∙ find-append_none s.workers (new_worker ∷ []) s.next (i.1 s.next (omega arith))
+      ∙ find_here new_worker [] s.next refl
     where
       apart : s.next ≡ n → ⊥
       apart e = omega arith
 
-  pub woken-new : Woken g n s (on_worker (with_new s c) n f) (worker s.next ∷ [])
-  woken-new = woken_one g n s (on_worker (with_new s c) n f) s.next
-      (λ e. apart e) (new-worker, new-found, can_is g (on_worker (with_new s c) n f) new-worker ∙ r)
+  pub woken_new : Woken g n s (on_worker (with_new s c) n f) (worker s.next ∷ [])
+  woken_new = woken_one g n s (on_worker (with_new s c) n f) s.next
+      (λ e. apart e) (new_worker, new_found, can_is g (on_worker (with_new s c) n f) new_worker ∙ r)
       (could_not_gone g s s.next (i.1 s.next (omega arith)))
       (λ q a b. could_as_before g s (on_worker (with_new s c) n f) q refl
-      (find-change_other (s.workers ++ (new-worker ∷ [])) n q f k a
+      (find-change_other (s.workers ++ (new_worker ∷ [])) n q f k a
       ∙ others q b (some_or_none (find s.workers q))))
     where
       apart : s.next ≡ n → ⊥
@@ -114,10 +114,10 @@ module _ (g : Program) (n : ℕ) (s : System) (i : Numbered s) (c : Control) (f 
 
       others : (q : ℕ) → (q ≡ s.next → ⊥) →
           (find s.workers q ≡ none) ⊎ ((w : Worker) × (find s.workers q ≡ some w)) →
-          find (s.workers ++ (new-worker ∷ [])) q ≡ find s.workers q
-      others q b (inl e) = find-append_none s.workers (new-worker ∷ []) q e ∙ find_there new-worker [] q
+          find (s.workers ++ (new_worker ∷ [])) q ≡ find s.workers q
+      others q b (inl e) = find-append_none s.workers (new_worker ∷ []) q e ∙ find_there new_worker [] q
           (λ d. b (sym d)) ∙ sym e
-      others q b (inr (w, e)) = find-append_some s.workers (new-worker ∷ []) q w e ∙ sym e
+      others q b (inr (w, e)) = find-append_some s.workers (new_worker ∷ []) q w e ∙ sym e
 
 -- who waits in vain has no message to take, and its time has not come: then a new message is seen by itself, and so
 -- is time
@@ -201,28 +201,28 @@ idle_waits t (wait cs u w) ms h = (cs, u, w, refl)
 module _ (g : Program) (n : ℕ) (s : System) (p : ℕ) (v : Value) (f : Worker → Worker) (k : KeepsNumber f)
     (w : Worker) (d : p ≡ n → ⊥) (e : find s.workers p ≡ some w) (idle : Could g s p → ⊥) (cs : Clauses)
     (u : Until) (o : Scope) (h : w.control ≡ wait cs u o) where
-  idle-not-ready : ready s.clock (wait cs u o) w.mail ≡ false
-  idle-not-ready = go (ready s.clock (wait cs u o) w.mail) refl
+  idle_not_ready : ready s.clock (wait cs u o) w.mail ≡ false
+  idle_not_ready = go (ready s.clock (wait cs u o) w.mail) refl
     where
       go : (b : Bool) → ready s.clock (wait cs u o) w.mail ≡ b →
           ready s.clock (wait cs u o) w.mail ≡ false
       go true r = absurd (idle (w, e, can_is g s w ∙ ap (λ c. ready s.clock c w.mail) h ∙ r))
       go false r = r
 
-  can-after-message : can g (sent_and_changed s n p v f) (add_mail v w) ≡ has (choose cs v o.vars)
-  can-after-message = can_is g (sent_and_changed s n p v f) (add_mail v w)
-      ∙ ap (λ c. ready s.clock c (w.mail ++ (v ∷ []))) h ∙ mail_wakes s.clock cs u o w.mail v idle-not-ready
+  can-after_message : can g (sent_and_changed s n p v f) (add_mail v w) ≡ has (choose cs v o.vars)
+  can-after_message = can_is g (sent_and_changed s n p v f) (add_mail v w)
+      ∙ ap (λ c. ready s.clock c (w.mail ++ (v ∷ []))) h ∙ mail_wakes s.clock cs u o w.mail v idle_not_ready
 
-  pub message-wakes : has (choose cs v o.vars) ≡ true → Woken g n s (sent_and_changed s n p v f) (worker p ∷ [])
-  message-wakes y = woken-by-message g n s p v f k d
-      (add_mail v w, sent-found g n s p v f k w d e, can-after-message ∙ y) idle
+  pub message_wakes : has (choose cs v o.vars) ≡ true → Woken g n s (sent_and_changed s n p v f) (worker p ∷ [])
+  message_wakes y = woken_by_message g n s p v f k d
+      (add_mail v w, sent_found g n s p v f k w d e, can-after_message ∙ y) idle
 
-  pub message-wakes-not : has (choose cs v o.vars) ≡ false → Woken g n s (sent_and_changed s n p v f) []
-  message-wakes-not y = woken-by-no-message g n s p v f k (inr (λ c. absurd (no_more c)))
+  pub message_wakes_not : has (choose cs v o.vars) ≡ false → Woken g n s (sent_and_changed s n p v f) []
+  message_wakes_not y = woken_by_no_message g n s p v f k (inr (λ c. absurd (no_more c)))
     where
       no_more : Could g (sent_and_changed s n p v f) p → ⊥
       no_more (x, a, b) =
-          let j : add_mail v w ≡ x = cc (sent-found g n s p v f k w d e) in
+          let j : add_mail v w ≡ x = cc (sent_found g n s p v f k w d e) in
           let r : can g (sent_and_changed s n p v f) (add_mail v w) ≡ true =
           ap (can g (sent_and_changed s n p v f)) j ∙ b in
-          impossible (cc can-after-message)
+          impossible (cc can-after_message)

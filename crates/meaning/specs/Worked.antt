@@ -109,16 +109,16 @@ failing = a_module (codes "m") (a_function (codes "main") main ∷ a_function (c
 abbrev pub out_of_order : Program
 out_of_order = a_module (codes "m") (a_function (codes "main") main ∷ []) ∷ []
   where
-    to-self : ℕ → Expr
-    to-self n = on_both (built_in send) (on_none (built_in self)) (int n)
+    to_self : ℕ → Expr
+    to_self n = on_both (built_in send) (on_none (built_in self)) (int n)
 
     any : Clauses
     any = clause x_pattern (do_show x_expr) no_c
 
     main : Body
     main =
-        then (to-self 1)
-        (then (to-self 2)
+        then (to_self 1)
+        (then (to_self 2)
         (then (receive (clause (p_int 2) (do_show (atom (codes "two"))) no_c))
         (then (receive any)
         (last (receive_until any (int 10) (do_show (atom (codes "late"))))))))

@@ -39,8 +39,8 @@ module _ (c : ℕ) (t : List ℕ) (few : Few t) where
   begun p q = record { no_blank = p; no_comment = q }
 
   -- a byte that is no letter begins no word
-  gap-no-letter : is_letter c ≡ false → 2 * atoms_in (tokens gap (c ∷ t)) ≤ length (c ∷ t)
-  gap-no-letter n = way (cases_Bool (is_blank c)) (cases_Bool (eqb c 35)) (cases_Bool (begins_sign c))
+  gap_no_letter : is_letter c ≡ false → 2 * atoms_in (tokens gap (c ∷ t)) ≤ length (c ∷ t)
+  gap_no_letter n = way (cases_Bool (is_blank c)) (cases_Bool (eqb c 35)) (cases_Bool (begins_sign c))
     where
       way : (is_blank c ≡ true) ⊎ (is_blank c ≡ false) → (eqb c 35 ≡ true) ⊎ (eqb c 35 ≡ false)
           → (begins_sign c ≡ true) ⊎ (begins_sign c ≡ false) → 2 * atoms_in (tokens gap (c ∷ t)) ≤ length (c ∷ t)
@@ -55,8 +55,8 @@ module _ (c : ℕ) (t : List ℕ) (few : Few t) where
         few.in_gap,
       )
 
-  gap-letter : is_letter c ≡ true → 2 * atoms_in (tokens gap (c ∷ t)) ≤ 1 + length (c ∷ t)
-  gap-letter l = way (cases_Bool (is_blank c)) (cases_Bool (eqb c 35))
+  gap_letter : is_letter c ≡ true → 2 * atoms_in (tokens gap (c ∷ t)) ≤ 1 + length (c ∷ t)
+  gap_letter l = way (cases_Bool (is_blank c)) (cases_Bool (eqb c 35))
     where
       way : (is_blank c ≡ true) ⊎ (is_blank c ≡ false) → (eqb c 35 ≡ true) ⊎ (eqb c 35 ≡ false)
           → 2 * atoms_in (tokens gap (c ∷ t)) ≤ 1 + length (c ∷ t)
@@ -64,29 +64,29 @@ module _ (c : ℕ) (t : List ℕ) (few : Few t) where
       way (inr p) (inl q) = omega (arith, ap atoms_in (comment_begins c p q t), few.in_comment)
       way (inr p) (inr q) = omega (arith, ap atoms_in (word_begins c t (begun p q) l), few.in_word (c ∷ []))
 
-  gap-any : 2 * atoms_in (tokens gap (c ∷ t)) ≤ 1 + length (c ∷ t)
-  gap-any = elim (cases_Bool (is_letter c)) [ inl l ↦ gap-letter l | inr n ↦ omega (arith, gap-no-letter n) ]
+  gap_any : 2 * atoms_in (tokens gap (c ∷ t)) ≤ 1 + length (c ∷ t)
+  gap_any = elim (cases_Bool (is_letter c)) [ inl l ↦ gap_letter l | inr n ↦ omega (arith, gap_no_letter n) ]
 
-  word-any : (w : Name) → 2 * atoms_in (tokens (word w) (c ∷ t)) ≤ 2 + length (c ∷ t)
-  word-any w = elim (cases_Bool (is_letter c)) [
+  word_any : (w : Name) → 2 * atoms_in (tokens (word w) (c ∷ t)) ≤ 2 + length (c ∷ t)
+  word_any w = elim (cases_Bool (is_letter c)) [
     | inl l ↦ omega (arith, ap atoms_in (word_more w c t l), few.in_word (w ++ (c ∷ [])))
-    | inr n ↦ omega (arith, ap atoms_in (word_ends w c t n), at_most_one w (tokens gap (c ∷ t)), gap-no-letter n)
+    | inr n ↦ omega (arith, ap atoms_in (word_ends w c t n), at_most_one w (tokens gap (c ∷ t)), gap_no_letter n)
   ]
 
-  sign-any : (d : ℕ) → is_letter d ≡ false → 2 * atoms_in (tokens (sign d) (c ∷ t)) ≤ 1 + length (c ∷ t)
-  sign-any d n = elim (cases_Bool (joins d c)) [
+  sign_any : (d : ℕ) → is_letter d ≡ false → 2 * atoms_in (tokens (sign d) (c ∷ t)) ≤ 1 + length (c ∷ t)
+  sign_any d n = elim (cases_Bool (joins d c)) [
     | inl j ↦ omega (arith, ap atoms_in (sign_joins d c t j), passes_no_atom d (c ∷ []) (tokens gap t) n, few.in_gap)
-    | inr j ↦ omega (arith, ap atoms_in (sign_alone d c t j), passes_no_atom d [] (tokens gap (c ∷ t)) n, gap-any)
+    | inr j ↦ omega (arith, ap atoms_in (sign_alone d c t j), passes_no_atom d [] (tokens gap (c ∷ t)) n, gap_any)
   ]
 
-  comment-any : 2 * atoms_in (tokens comment (c ∷ t)) ≤ 1 + length (c ∷ t)
-  comment-any = elim (cases_Bool (eqb c 10)) [
+  comment_any : 2 * atoms_in (tokens comment (c ∷ t)) ≤ 1 + length (c ∷ t)
+  comment_any = elim (cases_Bool (eqb c 10)) [
     | inl e ↦ omega (arith, ap atoms_in (comment_ends c e t), few.in_gap)
     | inr e ↦ omega (arith, ap atoms_in (comment_skips c e t), few.in_comment)
   ]
 
-  few-more : Few (c ∷ t)
-  few-more = record { in_gap = gap-any; in_word = word-any; in_sign = sign-any; in_comment = comment-any }
+  few_more : Few (c ∷ t)
+  few_more = record { in_gap = gap_any; in_word = word_any; in_sign = sign_any; in_comment = comment_any }
 
 few_atoms : (t : List ℕ) → Few t
 few_atoms [] =
@@ -96,7 +96,7 @@ few_atoms [] =
       in_sign = λ d n. omega (arith, passes_no_atom d [] [] n);
       in_comment = omega arith;
     }
-few_atoms (c ∷ t) = few-more c t (few_atoms t)
+few_atoms (c ∷ t) = few_more c t (few_atoms t)
 
 pub atoms_in-tokens : (t : List ℕ) → 2 * atoms_in (tokens gap t) ≤ 1 + length t
 atoms_in-tokens t = (few_atoms t).in_gap

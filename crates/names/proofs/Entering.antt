@@ -164,21 +164,21 @@ module _ {text spans : List ℕ} {count : ℕ} {buckets : List ℕ} {m : Store} 
   new_word : {ns : List Name} → Table text spans count buckets m ns → Known ns w → ⊥
   new_word {ns} t k = subst (Numbered ns w) none (found.number t) k
 
-  pub word-added : {ns : List Name} → Table text spans count buckets m ns → with_word ns w ≡ ns ++ (w ∷ [])
-  word-added {ns} t = (added ns w atom (new_word t)).is
+  pub word_added : {ns : List Name} → Table text spans count buckets m ns → with_word ns w ≡ ns ++ (w ∷ [])
+  word_added {ns} t = (added ns w atom (new_word t)).is
 
-  pub word-entered : {spans' buckets' : List ℕ} {m' : Store} {span : Slot} {from : ℕ} → span.kind ≡ length w
+  pub word_entered : {spans' buckets' : List ℕ} {m' : Store} {span : Slot} {from : ℕ} → span.kind ≡ length w
       → place_of span ≡ from
       → Entered spans spans' count buckets buckets' m m' span w
       → WordEntered text spans spans' count (count + 1) buckets buckets' m m' from w
-  word-entered {spans'} {buckets'} {m'} {span} {from} long place e =
+  word_entered {spans'} {buckets'} {m'} {span} {from} long place e =
       record {
         stands = λ {ns} big here t.
             let spells : spelled text count span ≡ w =
             cond-false (ltb count 16) (get_or own_atoms count []) _ (le-ltb count 16 big)
             ∙ (ap (λ n. take n (drop (place_of span) text)) long ∙ (ap (λ n. take (length w) (drop n text)) place
             ∙ here)) in
-            subst (λ l. Table text spans' (count + 1) buckets' m' l) (sym (word-added t)) (e.stands t spells
+            subst (λ l. Table text spans' (count + 1) buckets' m' l) (sym (word_added t)) (e.stands t spells
             (new_word t));
         used = omega (arith, e.used);
         more = omega arith;
@@ -214,9 +214,9 @@ module _ {text rest : List ℕ} (l : Lexeme) (b : Behind text rest) (first : Fir
   split = b.is ∙ (ap (λ r. b.front ++ r) first.place ∙ sym (append_assoc b.front (take l.skipped rest)
       (spelling l.token ++ l.rest.now)))
 
-  before-long : length before ≡ length text - length rest + l.skipped
+  before_long : length before ≡ length text - length rest + l.skipped
   unfolding before
-  before-long = omega (
+  before_long = omega (
     arith,
     length-append b.front (take l.skipped rest),
     length-take-le l.skipped rest (omega (arith, first.within)),
@@ -231,29 +231,29 @@ module _ {text rest : List ℕ} (l : Lexeme) (b : Behind text rest) (first : Fir
         is = split ∙ sym (append_assoc before (spelling l.token) l.rest.now);
       }
 
-  pub token-here : take (length (spelling l.token)) (drop
+  pub token_here : take (length (spelling l.token)) (drop
       (length text - length rest + l.skipped) text) ≡ spelling l.token
-  token-here =
+  token_here =
       ap (λ t. take (length (spelling l.token)) (drop (length text - length rest + l.skipped) t)) split
-      ∙ (ap (take (length (spelling l.token))) (drop_at before (spelling l.token ++ l.rest.now) _ before-long)
+      ∙ (ap (take (length (spelling l.token))) (drop_at before (spelling l.token ++ l.rest.now) _ before_long)
       ∙ take_at (spelling l.token) l.rest.now (length (spelling l.token)) refl)
 
-  pub entering-more : {spans spans' : List ℕ} {count count' : ℕ} {buckets buckets' : List ℕ} {m m' : Store} → 16 ≤ count
+  pub entering_more : {spans spans' : List ℕ} {count count' : ℕ} {buckets buckets' : List ℕ} {m m' : Store} → 16 ≤ count
       → WordEntered text spans spans' count count' buckets buckets' m m' (length text - length rest + l.skipped)
       (spelling l.token)
       → Entering text rest spans count buckets m → Entering text l.rest.now spans' count' buckets' m'
-  entering-more big e g =
+  entering_more big e g =
       record {
         names = with_word g.names (spelling l.token);
-        stands = e.stands big token-here g.stands;
+        stands = e.stands big token_here g.stands;
         ends = sym (ap (with_words g.names) first.cut) ∙ g.ends;
       }
 
   -- a word for which there is no room is a name of the text
-  pub entering-lacks : {spans : List ℕ} {count : ℕ} {buckets : List ℕ} {m : Store}
+  pub entering_lacks : {spans : List ℕ} {count : ℕ} {buckets : List ℕ} {m : Store}
       → WordLacks text spans count buckets m (spelling l.token)
       → Entering text rest spans count buckets m → count + 1 ≤ length (names_of text)
-  entering-lacks {spans} {count} lacks g =
+  entering_lacks {spans} {count} lacks g =
       let all : with_words (with_word g.names (spelling l.token)) (tokens gap l.rest.now) ≡ names_of text =
       sym (ap (with_words g.names) first.cut) ∙ g.ends in
       let grown = grown_words (with_word g.names (spelling l.token)) (tokens gap l.rest.now) in

@@ -28,23 +28,23 @@ spine-atoms [] = refl
 spine-atoms (i ∷ is) = omega (arith, spine-atoms is)
 
 module _ {ns : List Name} {m : Store} {w : Name} where
-  pub walking-begins : {s : Slot} (numbers : List ℕ) → Den m s (atoms numbers) → Walking ns m s w 0 numbers
-  walking-begins numbers d =
+  pub walking_begins : {s : Slot} (numbers : List ℕ) → Den m s (atoms numbers) → Walking ns m s w 0 numbers
+  walking_begins numbers d =
       record { rest = numbers; here = d; same_first = refl; short = omega (arith, spine-fits d, spine-atoms numbers) }
 
   -- the chain is at its end
-  pub walking-ends : {s : Slot} {steps : ℕ} (numbers : List ℕ) → s.kind < 16 → Walking ns m s w steps numbers
+  pub walking_ends : {s : Slot} {steps : ℕ} (numbers : List ℕ) → s.kind < 16 → Walking ns m s w steps numbers
       → None ≡ first_of ns w numbers
-  walking-ends {s} {steps} numbers k g = way g.rest g.here g.same_first
+  walking_ends {s} {steps} numbers k g = way g.rest g.here g.same_first
     where
       way : (rest : List ℕ) → Den m s (atoms rest) → first_of ns w rest ≡ first_of ns w numbers
           → None ≡ first_of ns w numbers
       way [] d e = e
       way (i ∷ is) d e = absurd (omega (arith, node_is d, k))
 
-  pub walking-short : {s : Slot} {steps : ℕ} (numbers : List ℕ) → m.used ≤ steps → Walking ns m s w steps numbers
+  pub walking_short : {s : Slot} {steps : ℕ} (numbers : List ℕ) → m.used ≤ steps → Walking ns m s w steps numbers
       → None ≡ first_of ns w numbers
-  walking-short {s} {steps} numbers k g = way g.rest g.same_first g.short
+  walking_short {s} {steps} numbers k g = way g.rest g.same_first g.short
     where
       way : (rest : List ℕ) → first_of ns w rest ≡ first_of ns w numbers → steps + length rest ≤ m.used
           → None ≡ first_of ns w numbers
@@ -52,11 +52,11 @@ module _ {ns : List Name} {m : Store} {w : Name} where
       way (i ∷ is) e h = absurd (omega (arith, h, k))
 
   -- the number at hand is the word's
-  pub walking-found : {s : Slot} {steps : ℕ} (numbers : List ℕ) (left : Slot) (a : Atom) (x : Name) → 16 ≤ s.kind
+  pub walking_found : {s : Slot} {steps : ℕ} (numbers : List ℕ) (left : Slot) (a : Atom) (x : Name) → 16 ≤ s.kind
       → left ≡ left_of m.words s
       → a.0 ≡ left.low → x ≡ get_or ns a.0 [] → true ≡ same x w → Walking ns m s w steps numbers
       → Some a ≡ first_of ns w numbers
-  walking-found {s} {steps} numbers left a x k l n is alike g = way g.rest g.here g.same_first
+  walking_found {s} {steps} numbers left a x k l n is alike g = way g.rest g.here g.same_first
     where
       way : (rest : List ℕ) → Den m s (atoms rest) → first_of ns w rest ≡ first_of ns w numbers
           → Some a ≡ first_of ns w numbers

@@ -8,8 +8,8 @@ use Rattle.names.specs.Table.{spelled, table}
 
 -- a part of a text, cut at its end
 module _ (text : List ℕ) (long from place : ℕ) (is : from ≡ place) where
-  pub part-past : length text ≤ from → [] ≡ take long (drop place text)
-  part-past h =
+  pub part_past : length text ≤ from → [] ≡ take long (drop place text)
+  part_past h =
       sym (take_all long (drop place text) (omega (arith, h, is, length-drop place text)) ∙ drop_all place text
       (omega (arith, h, is)))
 
@@ -19,8 +19,8 @@ module _ (text : List ℕ) (long from place : ℕ) (is : from ≡ place) where
       take_rest text from ∙ (sym (take_all long (drop from text) (omega (arith, h, ap length (take_rest text from))))
       ∙ ap (λ i. take long (drop i text)) is)
 
-  pub part-within : take long (take (length text - from) (drop from text)) ≡ take long (drop place text)
-  part-within = ap (take long) (take_rest text from) ∙ ap (λ i. take long (drop i text)) is
+  pub part_within : take long (take (length text - from) (drop from text)) ≡ take long (drop place text)
+  part_within = ap (take long) (take_rest text from) ∙ ap (λ i. take long (drop i text)) is
 
 module _ (text spans : List ℕ) where
   pub length-table : (count : ℕ) → length (table text spans count) ≡ count
@@ -38,8 +38,8 @@ module _ (text spans : List ℕ) where
         (λ k. spelled text k (slot_at spans k)) e
   ]
 
-  pub table-past : (count i : ℕ) → count ≤ i → [] ≡ get_or (table text spans count) i []
-  table-past count i h = sym (get_or_past (table text spans count) i [] (omega (arith, length-table count)))
+  pub table_past : (count i : ℕ) → count ≤ i → [] ≡ get_or (table text spans count) i []
+  table_past count i h = sym (get_or_past (table text spans count) i [] (omega (arith, length-table count)))
 
   -- an atom of the language, and a name of the text
   pub own_at : (count i : ℕ) → i < count → i < 16 → get_or own_atoms i [] ≡ get_or (table text spans count) i []

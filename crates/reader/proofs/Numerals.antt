@@ -13,9 +13,9 @@ number_of_digits w a b =
     ap (λ x. cond (x && leb (length w) 18) (number_from 0 w) none) (le-leb 1 (length w) a)
     ∙ ap (λ x. cond x (number_from 0 w) none) (le-leb (length w) 18 b)
 
-pub digit-goes-on :
+pub digit_goes_on :
     (n c : ℕ) (cs : List ℕ) → is_digit c ≡ true → number_from n (c ∷ cs) ≡ number_from (n * 10 + (c - 48)) cs
-digit-goes-on n c cs e = ap (λ b. cond b (number_from (n * 10 + (c - 48)) cs) none) e
+digit_goes_on n c cs e = ap (λ b. cond b (number_from (n * 10 + (c - 48)) cs) none) e
 
 pub no_digit_ends : (n c : ℕ) (cs : List ℕ) → is_digit c ≡ false → number_from n (c ∷ cs) ≡ none
 no_digit_ends n c cs e = ap (λ b. cond b (number_from (n * 10 + (c - 48)) cs) none) e

@@ -15,21 +15,21 @@ pub same_class : {w : Name} (k : Name) {r : Class} → Classified k r → true �
 same_class {w} k {r} h e = subst (λ x. Classified x r) (sym (same_is w k (T_of (sym e)))) h
 
 -- a word is among words if and only if it is among those of its length
-pub listed-with-length :
+pub listed_with_length :
     (p : ℕ → Bool) (w : Name) (ks : List Name) → p (length w) ≡ true → listed w (with_length p ks) ≡ listed w ks
-listed-with-length p w [] h = refl
-listed-with-length p w (k ∷ ks) h =
+listed_with_length p w [] h = refl
+listed_with_length p w (k ∷ ks) h =
     bool_all (λ b. listed w (cond b (k ∷ with_length p ks) (with_length p ks)) ≡ listed w (k ∷ ks)) (p (length k))
-    (λ e. ap (λ b. same w k || b) (listed-with-length p w ks h))
+    (λ e. ap (λ b. same w k || b) (listed_with_length p w ks h))
     (λ e. bool_all (λ b. listed w (with_length p ks) ≡ (b || listed w ks)) (same w k)
     (λ s. no_clash h (ap (λ x. p (length x)) (same_is w k (T_of s)) ∙ e))
-    (λ s. listed-with-length p w ks h))
+    (λ s. listed_with_length p w ks h))
 
-pub reserved-with-length :
+pub reserved_with_length :
     (p : ℕ → Bool) (ks : List Name) (w : Name) (r : Option Class) → p (length w) ≡ true →
     Reserved (with_length p ks) w r → Reserved ks w r
-reserved-with-length p ks w None h free = sym (listed-with-length p w ks h) ∙ free
-reserved-with-length p ks w (Some r) h class = class
+reserved_with_length p ks w None h free = sym (listed_with_length p w ks h) ∙ free
+reserved_with_length p ks w (Some r) h class = class
 
 pub is_other_length : (n : ℕ) → (n ≡ 4 → ⊥) → (n ≡ 5 → ⊥) → other_length n ≡ true
 is_other_length n four five =
@@ -43,16 +43,16 @@ kept_apart (x ∷ xs) = (not (all_letters x.text) || listed x.text keywords) && 
 pub table-kept_apart : kept_apart table ≡ true
 table-kept_apart = refl
 
-pub not-in-table :
+pub not_in_table :
     (xs : List Entry) (w : Name) → kept_apart xs ≡ true → all_letters w ≡ true → listed w keywords ≡ false →
     class_in xs w ≡ c_other
-not-in-table [] w h letters free = refl
-not-in-table (x ∷ xs) w h letters free =
+not_in_table [] w h letters free = refl
+not_in_table (x ∷ xs) w h letters free =
     let parts = and_parts (not (all_letters x.text) || listed x.text keywords) (kept_apart xs) h in
     cond_all (λ c. c ≡ c_other) (same w x.text) x.class (class_in xs w)
     (λ e. no_clash (subst (λ y. (not (all_letters y) || listed y keywords) ≡ true) (sym (same_is w x.text (T_of e)))
     parts.0) (ap (λ b. not b || listed w keywords) letters ∙ free))
-    (λ e. not-in-table xs w parts.1 letters free)
+    (λ e. not_in_table xs w parts.1 letters free)
 
 -- a word of letters that is neither a number nor a name nor a keyword
 pub other_word :
@@ -60,14 +60,14 @@ pub other_word :
     Classified w Other
 other_word w no_number no_name letters free = record {
   class = sym (ap (λ o. opt o (cond (is_name w) (c_name w) (class_in table w)) c_number) no_number
-      ∙ (ap (λ b. cond b (c_name w) (class_in table w)) no_name ∙ not-in-table table w table-kept_apart letters free));
+      ∙ (ap (λ b. cond b (c_name w) (class_in table w)) no_name ∙ not_in_table table w table-kept_apart letters free));
 }
 
 -- a name has 1 to 32 bytes, and a number no more
-pub wrong-length :
+pub wrong_length :
     (w : Name) → (1 ≤ length w → length w ≤ 32 → ⊥) → all_letters w ≡ true → listed w keywords ≡ false →
     Classified w Other
-wrong-length w h = other_word w
+wrong_length w h = other_word w
     (cond_all (λ o. o ≡ none) (leb 1 (length w) && leb (length w) 18) (number_from 0 w) none
     (λ e. let parts = and_parts (leb 1 (length w)) (leb (length w) 18) e in
     let short = leb-true (length w) 18 parts.1 in

@@ -1,6 +1,6 @@
 -- Copying loses nothing and is exact.
 -- While the scan stands at slot `scan`, each slot below it refers to the copies, and each later one to `from`. To scan a
--- slot moves it over that line and puts at most one cell at the end (`mixed-step`). The cells in use and those of the
+-- slot moves it over that line and puts at most one cell at the end (`mixed_step`). The cells in use and those of the
 -- trees that wait at the later slots have one sum all the time (`waiting_step`), so that is the number in the end.
 use Rattle.std.proofs.Common.{◌≡◌, ℕ, ◌+◌, ◌*◌, ◌/◌, ◌<◌, ◌≤◌, ◌⊎◌, List, [], ◌∷◌, ◌++◌, length, sym, refl, ap, ◌∙◌, subst, inl, inr, add-one, arith}
 use Rattle.std.proofs.lemmas.List.{length-append}
@@ -114,8 +114,8 @@ module _ (from : Store) {to to₁ to' : List ℕ} {used used' scan : ℕ} {s' : 
   same-below : (i : ℕ) → i < 2 * used → (i ≡ scan → ⊥) → slot_at to' i ≡ slot_at to i
   same-below i h n = w.other i n ∙ c.kept.same i h
 
-  copied-still : Copied from.words to' used used' (slot_at to scan)
-  copied-still =
+  copied_still : Copied from.words to' used used' (slot_at to scan)
+  copied_still =
       record {
         count = c.copied.count;
         cell = λ b. let x = c.copied.cell b in
@@ -126,26 +126,26 @@ module _ (from : Store) {to to₁ to' : List ℕ} {used used' scan : ℕ} {s' : 
       → ((q : Slot) → Mixed from to scan used q t → Mixed from to' (scan + 1) used' q t)
       → (i < scan → Mixed from to scan used (slot_at to i) t) × (scan ≤ i → Den from (slot_at to i) t)
       → (i < scan + 1 → Mixed from to' (scan + 1) used' (slot_at to' i) t) × (scan + 1 ≤ i → Den from (slot_at to' i) t)
-  unfolding same-below copied-still
+  unfolding same-below copied_still
   slot_step i t h rec d = (
     (λ b. elim (below_or_at i scan b) [
       | inl l ↦ subst (λ q. Mixed from to' (scan + 1) used' q t) (sym (same-below i h (λ e. omega arith)))
           (rec (slot_at to i) (d.0 l))
       | inr e ↦ subst (λ q. Mixed from to' (scan + 1) used' q t) (sym (ap (slot_at to') e ∙ w.here))
-          (landed from to' used used' (scan + 1) (slot_at to scan) s' t copied-still r (omega arith)
+          (landed from to' used used' (scan + 1) (slot_at to scan) s' t copied_still r (omega arith)
           (subst (λ x. Den from (slot_at to x) t) e (d.1 (omega arith))))
     ]),
     (λ b. subst (λ q. Den from q t) (sym (same-below i h (λ e. omega arith))) (d.1 (omega arith))),
   )
 
-  pub mixed-step : (s : Slot) (t : Tree) → Mixed from to scan used s t → Mixed from to' (scan + 1) used' s t
-  mixed-step s (leaf k l h) d = d
-  mixed-step s (node k a b) d = (
+  pub mixed_step : (s : Slot) (t : Tree) → Mixed from to scan used s t → Mixed from to' (scan + 1) used' s t
+  mixed_step s (leaf k l h) d = d
+  mixed_step s (node k a b) d = (
     d.0,
     d.1,
     omega (arith, c.kept.more),
-    slot_step (2 * place_of s) a (omega arith) (λ q m. mixed-step q a m) d.3,
-    slot_step (2 * place_of s + 1) b (omega arith) (λ q m. mixed-step q b m) d.4,
+    slot_step (2 * place_of s) a (omega arith) (λ q m. mixed_step q a m) d.3,
+    slot_step (2 * place_of s + 1) b (omega arith) (λ q m. mixed_step q b m) d.4,
   )
 
 total-append : (ts us : List Tree) → total (ts ++ us) ≡ total ts + total us

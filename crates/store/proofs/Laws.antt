@@ -114,7 +114,7 @@ pub same_tree_refl : (t : Tree) → same_tree t t ≡ true
 same_tree_refl (leaf k l h) = rw (eq-eqb k k refl, eq-eqb l l refl, eq-eqb h h refl) refl
 same_tree_refl (node k a b) = rw (eq-eqb k k refl, same_tree_refl a, same_tree_refl b) refl
 
--- Trees that are the same are equal, so that sameTree decides it.
+-- Trees that are the same are equal, so that `same_tree` decides it.
 pub same_tree-same : (t u : Tree) → same_tree t u ≡ true → t ≡ u
 same_tree-same (leaf k l h) (leaf k' l' h') e =
     let p = and_parts (eqb k k') (eqb l l' && eqb h h') e in

@@ -24,11 +24,11 @@ abbrev pub behind : List ℕ → List ℕ
 behind t = drop (prefix_len is_letter t) t
 
 module _ (c : ℕ) (t : List ℕ) where
-  pub leading-yes : is_letter c ≡ true → prefix_len is_letter (c ∷ t) ≡ suc (prefix_len is_letter t)
-  leading-yes r = ap (λ b. cond b (1 + prefix_len is_letter t) 0) r ∙ one-add (prefix_len is_letter t)
+  pub leading_yes : is_letter c ≡ true → prefix_len is_letter (c ∷ t) ≡ suc (prefix_len is_letter t)
+  leading_yes r = ap (λ b. cond b (1 + prefix_len is_letter t) 0) r ∙ one-add (prefix_len is_letter t)
 
-  pub leading-no : is_letter c ≡ false → prefix_len is_letter (c ∷ t) ≡ 0
-  leading-no r = ap (λ b. cond b (1 + prefix_len is_letter t) 0) r
+  pub leading_no : is_letter c ≡ false → prefix_len is_letter (c ∷ t) ≡ 0
+  leading_no r = ap (λ b. cond b (1 + prefix_len is_letter t) 0) r
 
 -- a word goes on to the end of its letters
 pub word_reads : (w : Name) (t : List ℕ) → tokens (word w) t ≡ (w ++ front t) ∷ tokens gap (behind t)
@@ -42,11 +42,11 @@ word_reads w (c ∷ t) = way (cases_Bool (is_letter c)) (word_reads (w ++ (c ∷
         word_more w c t r
         ∙ (longer
         ∙ (ap (λ v. v ∷ tokens gap (behind t)) (append_assoc w (c ∷ []) (front t))
-        ∙ ap (λ n. (w ++ take n (c ∷ t)) ∷ tokens gap (drop n (c ∷ t))) (sym (leading-yes c t r))))
+        ∙ ap (λ n. (w ++ take n (c ∷ t)) ∷ tokens gap (drop n (c ∷ t))) (sym (leading_yes c t r))))
     way (inr r) longer =
         word_ends w c t r
         ∙ (ap (λ v. v ∷ tokens gap (c ∷ t)) (sym (append-nil w))
-        ∙ ap (λ n. (w ++ take n (c ∷ t)) ∷ tokens gap (drop n (c ∷ t))) (sym (leading-no c t r)))
+        ∙ ap (λ n. (w ++ take n (c ∷ t)) ∷ tokens gap (drop n (c ∷ t))) (sym (leading_no c t r)))
 
 pub front_letters : (t : List ℕ) → all_letters (front t) ≡ true
 front_letters [] = refl
@@ -54,9 +54,9 @@ front_letters (c ∷ t) = way (cases_Bool (is_letter c)) (front_letters t)
   where
     way : (is_letter c ≡ true) ⊎ (is_letter c ≡ false) → all_letters (front t) ≡ true
         → all_letters (front (c ∷ t)) ≡ true
-    way (inl r) e = ap (λ n. all_letters (take n (c ∷ t))) (leading-yes c t r)
+    way (inl r) e = ap (λ n. all_letters (take n (c ∷ t))) (leading_yes c t r)
         ∙ and_from (is_letter c) (all_letters (front t)) r e
-    way (inr r) e = ap (λ n. all_letters (take n (c ∷ t))) (leading-no c t r)
+    way (inr r) e = ap (λ n. all_letters (take n (c ∷ t))) (leading_no c t r)
 
 -- the first byte is a letter exactly where there is a front
 pub letter_first : (c : ℕ) (t : List ℕ) → 0 < prefix_len is_letter (c ∷ t) → is_letter c ≡ true
@@ -64,13 +64,13 @@ letter_first c t h = way (cases_Bool (is_letter c))
   where
     way : (is_letter c ≡ true) ⊎ (is_letter c ≡ false) → is_letter c ≡ true
     way (inl r) = r
-    way (inr r) = absurd (omega (arith, h, leading-no c t r))
+    way (inr r) = absurd (omega (arith, h, leading_no c t r))
 
 pub no_letter_first : (c : ℕ) (t : List ℕ) → prefix_len is_letter (c ∷ t) ≡ 0 → is_letter c ≡ false
 no_letter_first c t e = way (cases_Bool (is_letter c))
   where
     way : (is_letter c ≡ true) ⊎ (is_letter c ≡ false) → is_letter c ≡ false
-    way (inl r) = absurd (omega (arith, e, leading-yes c t r))
+    way (inl r) = absurd (omega (arith, e, leading_yes c t r))
     way (inr r) = r
 
 pub no_letter_at : (t : List ℕ) → 0 < length t → prefix_len is_letter t ≡ 0 → is_letter (get_or t 0 0) ≡ false
@@ -92,7 +92,7 @@ word_cut [] h b = absurd (omega (arith, h))
 word_cut (c ∷ t) h b =
     let r : is_letter c ≡ true = letter_first c t h in
     word_begins c t b r ∙ (word_reads (c ∷ []) t
-    ∙ ap (λ n. take n (c ∷ t) ∷ tokens gap (drop n (c ∷ t))) (sym (leading-yes c t r)))
+    ∙ ap (λ n. take n (c ∷ t) ∷ tokens gap (drop n (c ∷ t))) (sym (leading_yes c t r)))
 
 -- the first of two bytes that join is one that begins a sign
 pub begins_from_joins : (d c : ℕ) → joins d c ≡ true → begins_sign d ≡ true

@@ -7,41 +7,41 @@ use Rattle.std.proofs.lemmas.Bool.{eq-eqb, ne_eqb}
 use Rattle.tokens.specs.Position.{ends_line, counted, Behind, Passes}
 
 module _ (p : ℕ → Bool) (xs : List ℕ) (y : ℕ) where
-  pub ending-push-yes : p y ≡ true → suffix_len p (xs ++ (y ∷ [])) ≡ 1 + suffix_len p xs
-  ending-push-yes e = ap (prefix_len p) (reverse-append xs (y ∷ [])) ∙ ap (λ b. cond b (1 + suffix_len p xs) 0) e
+  pub ending_push_yes : p y ≡ true → suffix_len p (xs ++ (y ∷ [])) ≡ 1 + suffix_len p xs
+  ending_push_yes e = ap (prefix_len p) (reverse-append xs (y ∷ [])) ∙ ap (λ b. cond b (1 + suffix_len p xs) 0) e
 
-  pub ending-push-no : p y ≡ false → suffix_len p (xs ++ (y ∷ [])) ≡ 0
-  ending-push-no e = ap (prefix_len p) (reverse-append xs (y ∷ [])) ∙ ap (λ b. cond b (1 + suffix_len p xs) 0) e
+  pub ending_push_no : p y ≡ false → suffix_len p (xs ++ (y ∷ [])) ≡ 0
+  ending_push_no e = ap (prefix_len p) (reverse-append xs (y ∷ [])) ∙ ap (λ b. cond b (1 + suffix_len p xs) 0) e
 
-  pub countBy-push-yes : p y ≡ true → count_by p (xs ++ (y ∷ [])) ≡ count_by p xs + 1
-  countBy-push-yes e = sum_by_push (λ x. cond (p x) 1 0) xs y ∙ ap (λ b. count_by p xs + cond b 1 0) e
+  pub count_by_push_yes : p y ≡ true → count_by p (xs ++ (y ∷ [])) ≡ count_by p xs + 1
+  count_by_push_yes e = sum_by_push (λ x. cond (p x) 1 0) xs y ∙ ap (λ b. count_by p xs + cond b 1 0) e
 
-  pub countBy-push-no : p y ≡ false → count_by p (xs ++ (y ∷ [])) ≡ count_by p xs
-  countBy-push-no e = sum_by_push (λ x. cond (p x) 1 0) xs y ∙ (ap (λ b. count_by p xs + cond b 1 0) e ∙ omega arith)
+  pub count_by_push_no : p y ≡ false → count_by p (xs ++ (y ∷ [])) ≡ count_by p xs
+  count_by_push_no e = sum_by_push (λ x. cond (p x) 1 0) xs y ∙ (ap (λ b. count_by p xs + cond b 1 0) e ∙ omega arith)
 
 -- a count that is held stays so
 pub counted_more : (m n : ℕ) → m ≡ counted (1 + n) → min (m + 1) (2 ^ 64 - 1) ≡ counted (1 + (1 + n))
 counted_more m n e = omega arith
 
 module _ (bytes : List ℕ) (line column line' column' c : ℕ) (b : Behind bytes line column) where
-  pub line-past : c ≡ 10 → line' ≡ min (line + 1) (2 ^ 64 - 1) → column' ≡ 1 → Behind (bytes ++ (c ∷ [])) line' column'
-  line-past is p q =
+  pub line_past : c ≡ 10 → line' ≡ min (line + 1) (2 ^ 64 - 1) → column' ≡ 1 → Behind (bytes ++ (c ∷ [])) line' column'
+  line_past is p q =
       let ends : ends_line c ≡ true = eq-eqb c 10 is in
       record {
         lines = p ∙ (counted_more line (count_by ends_line bytes) b.lines
             ∙ ap (λ n. counted (1 + n))
-            (add_comm 1 (count_by ends_line bytes) ∙ sym (countBy-push-yes ends_line bytes c ends)));
-        columns = q ∙ ap (λ n. counted (1 + n)) (sym (ending-push-no (λ k. not (ends_line k)) bytes c (ap not ends)));
+            (add_comm 1 (count_by ends_line bytes) ∙ sym (count_by_push_yes ends_line bytes c ends)));
+        columns = q ∙ ap (λ n. counted (1 + n)) (sym (ending_push_no (λ k. not (ends_line k)) bytes c (ap not ends)));
       }
 
-  pub column-past : (c ≡ 10 → ⊥) → line' ≡ line → column' ≡ min (column + 1) (2 ^ 64 - 1)
+  pub column_past : (c ≡ 10 → ⊥) → line' ≡ line → column' ≡ min (column + 1) (2 ^ 64 - 1)
       → Behind (bytes ++ (c ∷ [])) line' column'
-  column-past other p q =
+  column_past other p q =
       let goes_on : ends_line c ≡ false = ne_eqb c 10 other in
       record {
-        lines = p ∙ (b.lines ∙ ap (λ n. counted (1 + n)) (sym (countBy-push-no ends_line bytes c goes_on)));
+        lines = p ∙ (b.lines ∙ ap (λ n. counted (1 + n)) (sym (count_by_push_no ends_line bytes c goes_on)));
         columns = q ∙ (counted_more column (suffix_len (λ k. not (ends_line k)) bytes) b.columns
-            ∙ ap (λ n. counted (1 + n)) (sym (ending-push-yes (λ k. not (ends_line k)) bytes c (ap not goes_on))));
+            ∙ ap (λ n. counted (1 + n)) (sym (ending_push_yes (λ k. not (ends_line k)) bytes c (ap not goes_on))));
       }
 
 pub begins_behind : Behind [] 1 1
@@ -57,8 +57,8 @@ passes_all part i line column line' column' h f before b = rw (take_all i part h
 
 module _ (part : List ℕ) (i line column l k l' k' : ℕ) (h : i < length part)
     (f : Passes line column (take i part) l k) where
-  passes-more : Passes l k (get_or part i 0 ∷ []) l' k' → Passes line column (take (i + 1) part) l' k'
-  passes-more step before b =
+  passes_more : Passes l k (get_or part i 0 ∷ []) l' k' → Passes line column (take (i + 1) part) l' k'
+  passes_more step before b =
       let longer : (before ++ take i part) ++ (get_or part i 0 ∷ []) ≡ before ++ take (i + 1) part =
       append_assoc before (take i part) (get_or part i 0 ∷ [])
       ∙ sym (ap (λ s. before ++ s) (take_more part i 0 h)) in
@@ -66,11 +66,11 @@ module _ (part : List ℕ) (i line column l k l' k' : ℕ) (h : i < length part)
 
   pub passes_line : get_or part i 0 ≡ 10 → l' ≡ min (l + 1) (2 ^ 64 - 1) → k' ≡ 1
       → Passes line column (take (i + 1) part) l' k'
-  passes_line is p q = passes-more (λ bytes b. line-past bytes l k l' k' (get_or part i 0) b is p q)
+  passes_line is p q = passes_more (λ bytes b. line_past bytes l k l' k' (get_or part i 0) b is p q)
 
-  pub passes-column : (get_or part i 0 ≡ 10 → ⊥) → l' ≡ l → k' ≡ min (k + 1) (2 ^ 64 - 1)
+  pub passes_column : (get_or part i 0 ≡ 10 → ⊥) → l' ≡ l → k' ≡ min (k + 1) (2 ^ 64 - 1)
       → Passes line column (take (i + 1) part) l' k'
-  passes-column other p q = passes-more (λ bytes b. column-past bytes l k l' k' (get_or part i 0) b other p q)
+  passes_column other p q = passes_more (λ bytes b. column_past bytes l k l' k' (get_or part i 0) b other p q)
 
 pub take-length : (n : ℕ) (xs : List ℕ) → take (length (take n xs)) xs ≡ take n xs
 take-length n xs = sym (ap (λ ys. take (length (take n xs)) ys) (take-append-drop n xs))

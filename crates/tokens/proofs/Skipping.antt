@@ -18,27 +18,27 @@ skipped_none l m s p = sym (ap (tokens l) (append-nil s)) ∙ p []
 
 -- one more byte of the text
 module _ (t : List ℕ) (at : ℕ) (h : at < length t) where
-  take-skips : (m : Lexing) → Skips gap (take at t) gap → Skips gap (get_or t at 0 ∷ []) m → Skips gap (take (at + 1) t) m
-  take-skips m p q = skips_then gap gap m (take (at + 1) t) (take at t) (get_or t at 0 ∷ []) (take_more t at 0 h) p q
+  take_skips : (m : Lexing) → Skips gap (take at t) gap → Skips gap (get_or t at 0 ∷ []) m → Skips gap (take (at + 1) t) m
+  take_skips m p q = skips_then gap gap m (take (at + 1) t) (take at t) (get_or t at 0 ∷ []) (take_more t at 0 h) p q
 
-  pub blank-passed : is_blank (get_or t at 0) ≡ true → Skips gap (take at t) gap → Skips gap (take (at + 1) t) gap
-  blank-passed blank p = take-skips gap p (blank_skips (get_or t at 0) blank)
+  pub blank_passed : is_blank (get_or t at 0) ≡ true → Skips gap (take at t) gap → Skips gap (take (at + 1) t) gap
+  blank_passed blank p = take_skips gap p (blank_skips (get_or t at 0) blank)
 
-  pub comment-entered : is_blank (get_or t at 0) ≡ false → get_or t at 0 ≡ 35 → Skips gap (take at t) gap
+  pub comment_entered : is_blank (get_or t at 0) ≡ false → get_or t at 0 ≡ 35 → Skips gap (take at t) gap
       → Skips gap (take (at + 1) t) comment
-  comment-entered blank hash p = take-skips comment p
+  comment_entered blank hash p = take_skips comment p
       (comment_begins (get_or t at 0) blank (eq-eqb (get_or t at 0) 35 hash))
 
   module _ (from : ℕ) (l : from ≤ at) (p : Skips comment (between from at t) comment) where
-    between-skips : (m : Lexing) → Skips comment (get_or t at 0 ∷ []) m → Skips comment (between from (at + 1) t) m
-    between-skips m q = skips_then comment comment m (between from (at + 1) t) (between from at t) (get_or t at 0 ∷ [])
+    between_skips : (m : Lexing) → Skips comment (get_or t at 0 ∷ []) m → Skips comment (between from (at + 1) t) m
+    between_skips m q = skips_then comment comment m (between from (at + 1) t) (between from at t) (get_or t at 0 ∷ [])
         (between_more t from at 0 l h) p q
 
-    pub comment-passed : (get_or t at 0 ≡ 10 → ⊥) → Skips comment (between from (at + 1) t) comment
-    comment-passed other = between-skips comment (comment_skips (get_or t at 0) (ne_eqb (get_or t at 0) 10 other))
+    pub comment_passed : (get_or t at 0 ≡ 10 → ⊥) → Skips comment (between from (at + 1) t) comment
+    comment_passed other = between_skips comment (comment_skips (get_or t at 0) (ne_eqb (get_or t at 0) 10 other))
 
-    pub comment-left : get_or t at 0 ≡ 10 → Skips comment (between from (at + 1) t) gap
-    comment-left ends = between-skips gap (comment_ends (get_or t at 0) (eq-eqb (get_or t at 0) 10 ends))
+    pub comment_left : get_or t at 0 ≡ 10 → Skips comment (between from (at + 1) t) gap
+    comment_left ends = between_skips gap (comment_ends (get_or t at 0) (eq-eqb (get_or t at 0) 10 ends))
 
 -- a comment that is not ended holds the rest of the text
 pub comment_open : (t : List ℕ) (from at : ℕ) → length t ≤ at → Skips comment (between from at t) comment

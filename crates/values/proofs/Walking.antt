@@ -177,10 +177,10 @@ module _ (ns : List Name) (words scratch scratch' : List ℕ) (used : ℕ) (node
     (stack : Stack ns (store_of words used) scratch ws)
     (left : Holds ns (store_of words used) (left_of words node) a)
     (right : Waits ns (store_of words used) (right_of words node) mark w) where
-  opened-remains : Pushed words scratch scratch' node mark depth
+  opened_remains : Pushed words scratch scratch' node mark depth
       → Remains ns (store_of words used) scratch' (inside words node depth) (text_v a ++ stack_text (w ∷ ws))
       (max (length (w ∷ ws) + nesting (tree_v ns a)) (stack_need ns (w ∷ ws)))
-  opened-remains p =
+  opened_remains p =
       record {
         next = Some a;
         stack = w ∷ ws;
@@ -213,7 +213,7 @@ module _ (ns : List Name) (words scratch scratch' : List ℕ) (used : ℕ) (node
         text' = text_v a ++ stack_text (w ∷ ws);
         need' =
             max (length (w ∷ ws) + nesting (tree_v ns a)) (stack_need ns (w ∷ ws));
-        stands = opened-remains o.1;
+        stands = opened_remains o.1;
         text_is = e;
         need_is = grows o.1.room;
       })

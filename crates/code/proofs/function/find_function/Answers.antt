@@ -1,4 +1,4 @@
-use Rattle.code.proofs.Functions.{walk_starts, walk_on, walk-finds, walk_ends, walk-over}
+use Rattle.code.proofs.Functions.{walk_starts, walk_on, walk_finds, walk_ends, walk_over}
 use Rattle.code.proofs.function.find_function.Goals as goal
 
 pub definitions-init : goal.definitions-init
@@ -9,7 +9,7 @@ returns-then-chain-ne-FUNCTIONS c = walk_ends _ _ c.definitions.invariant c.read
 
 pub returns-then-has_signature : goal.returns-then-has_signature
 returns-then-has_signature c =
-    walk-finds _ _ c.definitions.invariant c.read_slot-chain.ensures c.if-chain-ne-FUNCTIONS.false c.left-definition.ensures c.left.ensures
+    walk_finds _ _ c.definitions.invariant c.read_slot-chain.ensures c.if-chain-ne-FUNCTIONS.false c.left-definition.ensures c.left.ensures
     c.has_signature.ensures c.if-has_signature.true c.right.ensures
 
 pub definitions-preserved : goal.definitions-preserved
@@ -18,4 +18,4 @@ definitions-preserved c =
     c.if-has_signature.false c.right-chain.ensures
 
 pub returns : goal.returns
-returns c = walk-over _ _ c.definitions.invariant c.read_slot-chain.ensures c.definitions-test.false
+returns c = walk_over _ _ c.definitions.invariant c.read_slot-chain.ensures c.definitions-test.false

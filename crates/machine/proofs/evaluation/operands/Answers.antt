@@ -1,6 +1,6 @@
 use Rattle.std.proofs.Common.{arith}
 use Rattle.machine.proofs.Standing.{grows_on, grows_put, grows_lacks}
-use Rattle.machine.proofs.Evaluating.{operands_end, operands-more}
+use Rattle.machine.proofs.Evaluating.{operands_end, operands_more}
 use Rattle.machine.proofs.evaluation.operands.Goals as goal
 
 pub returns-then-chain-ne-OPERAND : goal.returns-then-chain-ne-OPERAND
@@ -21,7 +21,7 @@ returns-in-Ok-make_frame c =
     let f = c.in-Ok-make_frame.ensures in
     record {
       grows = grows_on (grows_put p.long p.cases) f.grows;
-      sim = record { to = λ x s me k sc o vs es w q i ce ch si fs. operands-more x s me si fs vs es q c.if-chain-ne-OPERAND.false ce ch c.left.ensures p.cases f.grows.kept f.cases };
+      sim = record { to = λ x s me k sc o vs es w q i ce ch si fs. operands_more x s me si fs vs es q c.if-chain-ne-OPERAND.false ce ch c.left.ensures p.cases f.grows.kept f.cases };
     }
 
 pub returns-in-Err-make_frame : goal.returns-in-Err-make_frame

@@ -3,7 +3,7 @@ use Rattle.meaning.specs.Values.{quotient, remainder, less_int, same_int}
 use Rattle.numbers.specs.Exact.{Exact}
 use Rattle.numbers.specs.Divided.{Divided}
 use Rattle.code.specs.declared.operation.Operator.TheVariants.{Plus, Minus, Times, Divide, Modulo, Equal, Unequal, Less, AtMost}
-use Rattle.machine.proofs.Operating.{both_back, calculates_as, truth-as}
+use Rattle.machine.proofs.Operating.{both_back, calculates_as, truth_as}
 use Rattle.machine.proofs.operators.calculate.Goals as goal
 
 pub returns-in-Plus : goal.returns-in-Plus
@@ -34,19 +34,19 @@ returns-in-Modulo c =
 pub returns-in-Equal : goal.returns-in-Equal
 returns-in-Equal c =
     let e = both_back (λ a b. c.equal.result ≡ (same_int a b)) c.args.a c.args.b c.ranges.a c.ranges.b c.equal.ensures in
-    calculates_as Equal c.in-Equal.is (record { to = λ x m. truth-as x m (same_int c.args.a c.args.b) c.truth.ensures e })
+    calculates_as Equal c.in-Equal.is (record { to = λ x m. truth_as x m (same_int c.args.a c.args.b) c.truth.ensures e })
 
 pub returns-in-Unequal : goal.returns-in-Unequal
 returns-in-Unequal c =
     let e = both_back (λ a b. c.equal-in-Unequal.result ≡ (same_int a b)) c.args.a c.args.b c.ranges.a c.ranges.b c.equal-in-Unequal.ensures in
-    calculates_as Unequal c.in-Unequal.is (record { to = λ x m. truth-as x m (not (same_int c.args.a c.args.b)) c.truth-in-Unequal.ensures (ap not e) })
+    calculates_as Unequal c.in-Unequal.is (record { to = λ x m. truth_as x m (not (same_int c.args.a c.args.b)) c.truth-in-Unequal.ensures (ap not e) })
 
 pub returns-in-Less : goal.returns-in-Less
 returns-in-Less c =
     let e = both_back (λ a b. c.less.result ≡ (less_int a b)) c.args.a c.args.b c.ranges.a c.ranges.b c.less.ensures in
-    calculates_as Less c.in-Less.is (record { to = λ x m. truth-as x m (less_int c.args.a c.args.b) c.truth-in-Less.ensures e })
+    calculates_as Less c.in-Less.is (record { to = λ x m. truth_as x m (less_int c.args.a c.args.b) c.truth-in-Less.ensures e })
 
 pub returns-in-AtMost : goal.returns-in-AtMost
 returns-in-AtMost c =
     let e = both_back (λ a b. c.at_most.result ≡ (not (less_int b a))) c.args.a c.args.b c.ranges.a c.ranges.b c.at_most.ensures in
-    calculates_as AtMost c.in-AtMost.is (record { to = λ x m. truth-as x m (not (less_int c.args.b c.args.a)) c.truth-in-AtMost.ensures e })
+    calculates_as AtMost c.in-AtMost.is (record { to = λ x m. truth_as x m (not (less_int c.args.b c.args.a)) c.truth-in-AtMost.ensures e })

@@ -1,4 +1,4 @@
-use Rattle.machine.proofs.Awaiting.{take_found, take-late, take-waits, take-full}
+use Rattle.machine.proofs.Awaiting.{take_found, take_late, take_waits, take_full}
 use Rattle.machine.proofs.receiving.take_message.Goals as goal
 
 pub returns-in-Found : goal.returns-in-Found
@@ -14,7 +14,7 @@ returns-then-due c =
     let f = c.in-Ok.ensures in
     record {
       grows = record { long = f.long; kept = f.kept };
-      sim = record { to = λ x s me cs u w e ci h ps d. take-late x s me cs u w e ci h ps c.left-clauses.ensures c.right.ensures c.right-late.ensures d c.if-due.true f.kept c.in-Nothing.is f.cases };
+      sim = record { to = λ x s me cs u w e ci h ps d. take_late x s me cs u w e ci h ps c.left-clauses.ensures c.right.ensures c.right-late.ensures d c.if-due.true f.kept c.in-Nothing.is f.cases };
     }
 
 pub returns-else-due : goal.returns-else-due
@@ -22,7 +22,7 @@ returns-else-due c =
     let f = c.in-Ok.ensures in
     record {
       grows = record { long = f.long; kept = f.kept };
-      sim = record { to = λ x s me cs u w e ci h ps d. take-waits x s me cs u w e ci h ps c.left-clauses.ensures d c.if-due.false c.in-Nothing.is f.cases };
+      sim = record { to = λ x s me cs u w e ci h ps d. take_waits x s me cs u w e ci h ps c.left-clauses.ensures d c.if-due.false c.in-Nothing.is f.cases };
     }
 
 pub returns-in-Err : goal.returns-in-Err
@@ -30,5 +30,5 @@ returns-in-Err c =
     let f = c.in-Err.ensures in
     record {
       grows = record { long = f.long; kept = f.kept };
-      sim = record { to = λ x s me cs u w e ci h ps d. take-full x s me cs u w e ci h ps c.left-clauses.ensures f.cases };
+      sim = record { to = λ x s me cs u w e ci h ps d. take_full x s me cs u w e ci h ps c.left-clauses.ensures f.cases };
     }

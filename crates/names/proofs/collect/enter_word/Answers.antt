@@ -1,7 +1,7 @@
 use Rattle.std.proofs.Common.{sym, refl}
 use Rattle.store.proofs.Laws.{kept_refl}
 use Rattle.names.proofs.Naming.{left_known}
-use Rattle.names.proofs.Entering.{word_left, word-added, word-entered}
+use Rattle.names.proofs.Entering.{word_left, word_added, word_entered}
 use Rattle.names.proofs.collect.enter_word.Goals as goal
 
 pub returns-in-Some : goal.returns-in-Some
@@ -17,7 +17,7 @@ returns-in-Ok c =
     record {
       long = c.in-Ok.ensures.long;
       kept = c.in-Ok.ensures.kept;
-      cases = word-entered (sym c.if-not-is_atom.ensures) c.in-None.ensures refl
+      cases = word_entered (sym c.if-not-is_atom.ensures) c.in-None.ensures refl
           c.slot-span.ensures.kind
           c.slot-span.ensures.place c.in-Ok.ensures.cases;
     }
@@ -28,7 +28,7 @@ returns-in-Err c =
       long = c.in-Err.ensures.long;
       kept = c.in-Err.ensures.kept;
       cases = record {
-        new = λ {ns} t. word-added (sym c.if-not-is_atom.ensures) c.in-None.ensures refl t;
+        new = λ {ns} t. word_added (sym c.if-not-is_atom.ensures) c.in-None.ensures refl t;
         short = c.in-Err.ensures.cases;
       };
     }

@@ -1,7 +1,7 @@
 use Rattle.std.proofs.Common.{◌+◌, length, sym, refl, ◌∙◌, arith}
 use Rattle.store.proofs.Laws.{kept_refl, kept_trans}
 use Rattle.names.specs.Names.{names_of}
-use Rattle.names.proofs.Entering.{table_long, lacking_more, behind_start, behind-length, behind_more, entering_start, entering-more, entering-lacks, entering_end}
+use Rattle.names.proofs.Entering.{table_long, lacking_more, behind_start, behind-length, behind_more, entering_start, entering_more, entering_lacks, entering_end}
 use Rattle.names.proofs.collect.enter_words.Goals as goal
 
 pub loop-lexeme-init : goal.loop-lexeme-init
@@ -19,7 +19,7 @@ returns-in-Err c =
       kept = kept_trans c.loop-lexeme.invariant.1 c.in-Err.ensures.kept;
       cases = record {
         short = λ start t used.
-            let more = entering-lacks c.in-Some.lexeme c.loop-lexeme.invariant.4 first lacks
+            let more = entering_lacks c.in-Some.lexeme c.loop-lexeme.invariant.4 first lacks
             (c.loop-lexeme.invariant.5 t) in
             lacking_more c.args.spans.now c.loop-lexeme.spans c.args.buckets.now c.loop-lexeme.buckets
             c.args.heap.now.words.now c.loop-lexeme.heap.words.now (c.loop-lexeme.count + 1)
@@ -40,7 +40,7 @@ loop-lexeme-preserved c =
       omega (arith, entered.used, c.loop-lexeme.invariant.2),
       omega (arith, entered.more, c.loop-lexeme.invariant.3),
       behind_more c.in-Some.lexeme c.loop-lexeme.invariant.4 first,
-      (λ t. entering-more c.in-Some.lexeme c.loop-lexeme.invariant.4 first c.loop-lexeme.invariant.3 entered
+      (λ t. entering_more c.in-Some.lexeme c.loop-lexeme.invariant.4 first c.loop-lexeme.invariant.3 entered
           (c.loop-lexeme.invariant.5 t)),
     )
 

@@ -1,14 +1,14 @@
 use Rattle.std.proofs.Common.{refl}
-use Rattle.names.proofs.Looking.{walking-begins, walking-ends, walking-short, walking-found, walking_on}
+use Rattle.names.proofs.Looking.{walking_begins, walking_ends, walking_short, walking_found, walking_on}
 use Rattle.names.proofs.lookup.walk.Goals as goal
 
 pub loop-at-init : goal.loop-at-init
-loop-at-init c = walking-begins
+loop-at-init c = walking_begins
 
 pub returns-then-same_bytes : goal.returns-then-same_bytes
 returns-then-same_bytes c =
     record {
-      first = λ numbers d. walking-found numbers c.both-cell.result.left
+      first = λ numbers d. walking_found numbers c.both-cell.result.left
           (record { 0 = c.both-cell.result.left.low }) c.name_bytes.result.now
           c.loop-at-test.true c.both-cell.ensures.left refl c.name_bytes.ensures
           c.if-same_bytes.ensures (c.loop-at.invariant numbers d);
@@ -24,12 +24,12 @@ loop-at-preserved c = λ numbers d.
 
 pub returns-else-steps-heap : goal.returns-else-steps-heap
 returns-else-steps-heap c = record {
-  first = λ numbers d. walking-short numbers c.if-steps-heap.false
+  first = λ numbers d. walking_short numbers c.if-steps-heap.false
       (c.loop-at.invariant numbers d);
 }
 
 pub returns-after-loop-at : goal.returns-after-loop-at
 returns-after-loop-at c = record {
-  first = λ numbers d. walking-ends numbers c.loop-at-test.false
+  first = λ numbers d. walking_ends numbers c.loop-at-test.false
       (c.loop-at.invariant numbers d);
 }

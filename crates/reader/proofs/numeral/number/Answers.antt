@@ -1,7 +1,7 @@
 use Rattle.std.proofs.Common.{◌+◌, ◌*◌, get_or, drop, sym, ap, ◌∙◌, arith}
 use Rattle.std.proofs.lemmas.List.{at_drop_more, at_drop_all}
 use Rattle.meaning.specs.Grammar.{number_from}
-use Rattle.reader.proofs.Numerals.{number_of_digits, digit-goes-on, no_digit_ends, digits-below, digit_more_below}
+use Rattle.reader.proofs.Numerals.{number_of_digits, digit_goes_on, no_digit_ends, digits-below, digit_more_below}
 use Rattle.reader.proofs.numeral.number.Goals as goal
 
 pub returns-in_default : goal.returns-in_default
@@ -31,7 +31,7 @@ loop-byte-preserved c =
       digit_more_below n i c.in-Some.next c.loop-byte.invariant.0 c.in-Some.ensures.2,
       c.loop-byte.invariant.1
           ∙ (at_drop_more (number_from n) w i 0 c.loop-byte-test.true
-          ∙ (digit-goes-on n (get_or w i 0) (drop (i + 1) w) c.in-Some.ensures.0
+          ∙ (digit_goes_on n (get_or w i 0) (drop (i + 1) w) c.in-Some.ensures.0
           ∙ ap (λ d. number_from (n * 10 + d) (drop (i + 1) w)) (sym c.in-Some.ensures.1))),
     )
 

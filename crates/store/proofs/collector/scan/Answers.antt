@@ -1,6 +1,6 @@
 use Rattle.std.proofs.Common.{arith}
 use Rattle.store.specs.Heap.{store_of}
-use Rattle.store.proofs.Collecting.{appended_at, mixed_done, mixed-step, next, redirected_at, takes_cell, waiting_done, waiting_step}
+use Rattle.store.proofs.Collecting.{appended_at, mixed_done, mixed_step, next, redirected_at, takes_cell, waiting_done, waiting_step}
 use Rattle.store.proofs.Laws.{den_at}
 use Rattle.store.proofs.collector.scan.Goals as goal
 
@@ -20,7 +20,7 @@ loop-j-preserved c =
       omega (arith, a.fits, c.set_slot.auto),
       omega (arith, a.kept.more, c.loop-j-test.true),
       (λ top sum q. waiting_step c.loop-j-test.true a r w (c.loop-j.invariant.2 top sum q)),
-      (λ top s t d. mixed-step (store_of c.args.from.now top) c.loop-j-test.true a r w s t
+      (λ top s t d. mixed_step (store_of c.args.from.now top) c.loop-j-test.true a r w s t
           (c.loop-j.invariant.3 top s t d)),
     )
 

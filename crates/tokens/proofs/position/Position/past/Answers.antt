@@ -1,5 +1,5 @@
 use Rattle.std.proofs.Common.{◌∙◌}
-use Rattle.tokens.proofs.Placing.{passes_none, passes_all, passes_line, passes-column}
+use Rattle.tokens.proofs.Placing.{passes_none, passes_all, passes_line, passes_column}
 use Rattle.tokens.proofs.position.Position.past.Goals as goal
 use Rattle.tokens.proofs.position.Position.past.Goals.{then-byte-eq10, else-byte-eq10}
 
@@ -12,7 +12,7 @@ loop-byte-preserved c =
       | then-byte-eq10 w ↦ passes_line c.args.bytes.now c.loop-byte.byte-index _ _ _ _ _ _
           c.loop-byte-test.true c.loop-byte.invariant w.if-byte-eq10.true
           (w.line-is ∙ w.saturating_add-line.ensures) w.column-is
-      | else-byte-eq10 w ↦ passes-column c.args.bytes.now c.loop-byte.byte-index _ _ _ _ _ _
+      | else-byte-eq10 w ↦ passes_column c.args.bytes.now c.loop-byte.byte-index _ _ _ _ _ _
           c.loop-byte-test.true c.loop-byte.invariant w.if-byte-eq10.false w.line-is
           (w.column-is ∙ w.saturating_add-column.ensures)
     ]
