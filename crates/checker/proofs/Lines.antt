@@ -6,15 +6,11 @@ use Rattle.meaning.specs.Tokens.{tokens, gap}
 use Rattle.tokens.specs.declared.token.Lexeme.{Lexeme}
 use Rattle.tokens.specs.Cutting.{spelling, First}
 use Rattle.tokens.specs.Position.{Behind, Passes}
-use Rattle.tokens.proofs.Placing.{begins_behind}
 use Rattle.checker.specs.Listing.{Lists, no_more, one_more, token_line}
 
 abbrev pub Listed : List ℕ → List ℕ → List ℕ → ℕ → ℕ → Type 0
 Listed text done rest line column = (before : List ℕ) × Behind before line column
     × ((lines : List ℕ) → Lists before rest lines → Lists [] text (done ++ lines))
-
-pub listed_none : (text : List ℕ) → Listed text [] text 1 1
-listed_none text = ([], begins_behind, λ lines l. l)
 
 -- what a token and the bytes before it take of a text
 pub taken : (t : List ℕ) (l : Lexeme) → First t l

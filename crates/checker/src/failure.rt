@@ -1,42 +1,30 @@
 //! What can keep the program from its answer.
 use super::input::LIMIT;
 use std::alloc::AllocError;
-use std::{fmt, io};
+use std::io;
+use thiserror::Error;
 
 const USAGE: &str = "usage: check [--tokens] < TEXT";
 
 /// Why there is no answer.
-#[derive(Debug, Drop)]
+#[derive(Debug, Drop, Error)]
 pub enum Failure {
     /// The arguments could not be read.
+    #[error("cannot read the arguments: {0}\n{usage}", usage = USAGE)]
     Arguments(io::Error),
     /// An argument that is not known.
+    #[error("unknown argument {0}\n{usage}", usage = USAGE)]
     Unknown(String),
     /// The text could not be read.
+    #[error("cannot read the text: {0}")]
     Input(io::Error),
     /// The text is longer than a text may be.
+    #[error("the text has more than {limit} bytes", limit = LIMIT)]
     TooLong,
     /// The answer could not be written.
+    #[error("cannot write the answer: {0}")]
     Output(io::Error),
     /// There is too little memory for the answer.
-    Memory,
-}
-
-impl fmt::Display for Failure {
-    fn fmt<W: fmt::Write>(&self, f: &mut fmt::Formatter<W>) -> fmt::Result {
-        match self {
-            Failure::Arguments(error) => write!(f, "cannot read the arguments: {error}\n{USAGE}"),
-            Failure::Unknown(argument) => write!(f, "unknown argument {argument}\n{USAGE}"),
-            Failure::Input(error) => write!(f, "cannot read the text: {error}"),
-            Failure::TooLong => write!(f, "the text has more than {LIMIT} bytes"),
-            Failure::Output(error) => write!(f, "cannot write the answer: {error}"),
-            Failure::Memory => write!(f, "too little memory for the answer"),
-        }
-    }
-}
-
-impl From<AllocError> for Failure {
-    fn from(_error: AllocError) -> Failure {
-        Failure::Memory
-    }
+    #[error("too little memory for the answer")]
+    Memory(#[from(alloc)] AllocError),
 }

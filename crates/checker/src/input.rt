@@ -1,42 +1,26 @@
 //! Reading a text.
-ghost use Rattle.std.specs.Prelude.{◌≤◌, length, IfOk};
+ghost use Rattle.std.specs.Prelude.{◌≡◌, ◌≤◌, IfOk, IfSome, vec_len};
 
 use super::failure::Failure;
-use std::io;
+use std::alloc::Global;
 use std::io::Read;
 
 /// The most bytes that a text may have.
 pub const LIMIT: usize = 32768;
 
-/// A buffer of this size takes a text that is too long far enough to see that it is.
-pub const ROOM: usize = LIMIT + 1;
-
-/// Reads a text to its end and says how long it is; refuses one that is longer than a text may be.
-pub fn read_text<R: Read>(source: &mut R, buffer: &mut [u8]) -> Result<usize, Failure>
-    ensures { IfOk result (λ n. (n ≤ length buffer.new) × (n ≤ 32768)) }
+/// Reads a text to its end; refuses one that is longer than a text may be.
+pub fn read_text<R: Read>(heap: Global, source: &mut R) -> Result<Vec<u8>, Failure>
+    ensures within { IfOk result (λ text. vec_len text ≤ 32768) }
+    ensures whole { IfOk result (λ text. IfSome (R.remaining source.old) (λ bytes. text.items ≡ bytes)) }
 {
-    match fill(source, buffer) {
-        Ok(length) => {
-            if length > LIMIT {
-                return Err(Failure::TooLong);
-            }
-            Ok(length)
-        }
-        Err(error) => Err(Failure::Input(error)),
+    // One byte more than a text may have shows that it is too long.
+    let mut text = Vec::with_capacity(heap, LIMIT + 1)?;
+    source
+        .take(LIMIT as u64 + 1)
+        .read_to_end(&mut text)
+        .map_err(Failure::Input)?;
+    if text.len() > LIMIT {
+        return Err(Failure::TooLong);
     }
-}
-
-// Reads until the buffer is full or the source ends, and says how many bytes came.
-fn fill<R: Read>(source: &mut R, buffer: &mut [u8]) -> io::Result<usize>
-    ensures { IfOk result (λ n. n ≤ length buffer.new) }
-{
-    let mut filled = 0;
-    while filled < buffer.len() {
-        let count = source.read(&mut buffer[filled..])?;
-        if count == 0 {
-            break;
-        }
-        filled += count;
-    }
-    Ok(filled)
+    Ok(text)
 }

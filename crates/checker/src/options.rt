@@ -16,28 +16,18 @@ pub enum Detail {
 impl Detail {
     /// What the program's arguments ask for; refuses those that it does not know.
     pub fn from_arguments(rt: &HostRuntime) -> Result<Detail, Failure> {
-        let arguments = match env::args(rt) {
-            Ok(arguments) => arguments,
-            Err(error) => return Err(Failure::Arguments(error)),
-        };
         let mut detail = Detail::Count;
-        for argument in arguments.skip(1) {
-            detail = match Detail::from_argument(argument.as_str()) {
-                Some(asked) => asked,
-                None => return Err(Failure::Unknown(argument)),
-            };
+        for argument in env::args(rt).map_err(Failure::Arguments)?.skip(1) {
+            let asked = Detail::from_argument(argument.as_str());
+            detail = asked.ok_or_else(|| Failure::Unknown(argument))?;
         }
         Ok(detail)
     }
 
-    // What one argument asks for.
+    // What one argument asks for; an error of its own would say no more than `None` does.
     fn from_argument(argument: &str) -> Option<Detail>
         ensures { MatchOption result (argument.now ≢ codes "--tokens") (λ d. (d ≡ Detail.Tokens) × (argument.now ≡ codes "--tokens")) }
     {
-        if argument == "--tokens" {
-            Some(Detail::Tokens)
-        } else {
-            None
-        }
+        (argument == "--tokens").then_some(Detail::Tokens)
     }
 }

@@ -6,7 +6,7 @@ ghost use Rattle.checker.specs.Listing.{Reports, total_line};
 use super::listing::listing;
 use super::options::Detail;
 use std::alloc::{AllocError, Global};
-use tokens::next_token;
+use tokens::Lexemes;
 
 /// What is said of the text: its tokens where that is asked, and how many there are.
 pub fn report(heap: Global, text: &[u8], detail: Detail) -> Result<Vec<u8>, AllocError>
@@ -25,13 +25,7 @@ pub fn report(heap: Global, text: &[u8], detail: Detail) -> Result<Vec<u8>, Allo
 fn count(text: &[u8]) -> usize
     ensures { result ≡ length (tokens gap text.now) }
 {
-    let mut count = 0;
-    let mut rest = text;
-    while let Some(lexeme) = next_token(rest) {
-        count += 1;
-        rest = lexeme.rest;
-    }
-    count
+    Lexemes::new(text).count()
 }
 
 // The last line of the answer.

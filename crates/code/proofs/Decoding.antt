@@ -1,5 +1,5 @@
 -- A slot of clauses that are there has the kind of clauses, and its cell and the one to its left have the parts.
-use Rattle.std.proofs.Common.{◌≡◌, ℕ, List, refl, ap, arith}
+use Rattle.std.proofs.Common.{◌≡◌, ℕ, List, Some, None, refl, ap, arith}
 use Rattle.meaning.specs.Basics.{Name}
 use Rattle.meaning.specs.Syntax.{Clauses as Cls, no_c, clause}
 use Rattle.store.specs.Heap.{store_of, left_of, right_of}
@@ -7,12 +7,11 @@ use Rattle.store.specs.declared.slot.Cell.{Cell}
 use Rattle.store.specs.declared.slot.Slot.{Slot}
 use Rattle.code.specs.Code.{CodeCs}
 use Rattle.code.specs.Clauses.{ClausesAre}
-use Rattle.code.specs.declared.clauses.Clauses.TheVariants.{End, First}
 use Rattle.store.proofs.Laws.{leaf_is, node_is, left_at, right_at}
 
 pub no_clauses : {ns sc : List Name} {words : List ℕ} {used : ℕ} {s : Slot} (cs : Cls) → (s.kind ≡ 27 → ⊥)
     → CodeCs ns sc (store_of words used) s cs
-    → ClausesAre ns sc (store_of words used) End cs
+    → ClausesAre ns sc (store_of words used) None cs
 no_clauses no_c n c = refl
 no_clauses (clause p b cs) n c = absurd (n (node_is c.stands))
 
@@ -21,7 +20,7 @@ pub first_clause : {ns sc : List Name} {words : List ℕ} {used : ℕ} {s : Slot
     → y.right ≡ right_of words x.left
     → CodeCs ns sc (store_of words used) s cs
     → ClausesAre ns sc (store_of words used)
-    (First (record { pattern = y.left; body = y.right; rest = x.right })) cs
+    (Some (record { pattern = y.left; body = y.right; rest = x.right })) cs
 first_clause {s} no_c k l r l' r' c = absurd (omega (arith, k, ap (λ (q : Slot). q.kind) (leaf_is c.stands)))
 first_clause {ns} {sc} {words} {used} {s} {x} {y} (clause p b cs) k l r l' r' c =
     record {

@@ -2,7 +2,6 @@
 -- the first in the chain of a section and a number of parameters is the one that the section's list gives.
 use Rattle.std.proofs.Common.{◌≡◌, ℕ, zero, suc, pred, ◌+◌, ◌<◌, ◌≤◌, Bool, true, false, cond, ◌&&◌, eqb, ◌⊎◌, List, [], ◌∷◌, length, Some, None, sym, refl, ap, ◌∙◌, subst, inl, inr, arith}
 use mathlib.Core.Option.{Option as Maybe, some, none}
-use Rattle.std.proofs.lemmas.Bool.{and_parts}
 use Rattle.meaning.specs.Basics.{opt, Name, same}
 use Rattle.meaning.specs.Syntax.{Function, Module, Program}
 use Rattle.meaning.specs.System.{functions_of, function_of}
@@ -17,7 +16,8 @@ use Rattle.store.specs.Slots.{slot_at}
 use Rattle.store.specs.Tree.{leaf, node, spine}
 use Rattle.store.specs.declared.slot.Slot.{Slot}
 use Rattle.values.specs.Encoding.{index_of, Known}
-use Rattle.meaning.proofs.Splits.{T_of, no_clash, none_some, some_is, eqb_no, eqb_yes, eqb_is, same_is, same_refl}
+use Rattle.std.proofs.lemmas.Bool.{and_parts, eq-eqb, eqb-true, ne_eqb}
+use Rattle.meaning.proofs.Splits.{T_of, no_clash, none_some, some_is, same_is, same_refl}
 use Rattle.store.proofs.Laws.{node_is, node_left, node_right, spine-fits}
 use Rattle.code.proofs.Firsts.{first, Once, first_reverse}
 use Rattle.code.proofs.Instructions.{leaf_has_kind, leaf_has_low, leaf_has_high}
@@ -35,7 +35,7 @@ seek n y c ds = first (wanted n y c) function ds
 -- sections ahead have no functions of this one
 seek-define_other : (k n : ℕ) (y : Name) (c : ℕ) (fs : List Function) (ds : List Definition) → (k ≡ n → ⊥) → seek n y c (define k fs ds) ≡ seek n y c ds
 seek-define_other k n y c [] ds h = refl
-seek-define_other k n y c (f ∷ fs) ds h = rw (eqb_no k n h) (seek-define_other k n y c fs ds h)
+seek-define_other k n y c (f ∷ fs) ds h = rw (ne_eqb k n h) (seek-define_other k n y c fs ds h)
 
 seek_ahead : (k n : ℕ) (y : Name) (c : ℕ) (g : Program) → n < k → seek n y c (definitions k g) ≡ none
 seek_ahead k n y c [] h = refl
@@ -43,7 +43,7 @@ seek_ahead k n y c (m ∷ ms) h = seek-define_other k n y c m.functions (definit
 
 seek-define : (n : ℕ) (y : Name) (c : ℕ) (fs : List Function) (ds : List Definition) → seek n y c ds ≡ none → seek n y c (define n fs ds) ≡ function_of fs y c
 seek-define n y c [] ds h = h
-seek-define n y c (f ∷ fs) ds h = rw (eqb_yes n n refl, seek-define n y c fs ds h) refl
+seek-define n y c (f ∷ fs) ds h = rw (eq-eqb n n refl, seek-define n y c fs ds h) refl
 
 pub seek-section : (k n : ℕ) (y : Name) (c : ℕ) (g : Program) {m : Module} → section g n ≡ some m → seek (k + n) y c (definitions k g) ≡ function_of m.functions y c
 seek-section k n y c [] e = absurd (none_some e)
@@ -71,8 +71,8 @@ once_define k n y c (f ∷ fs) ds s h o =
       λ w.
           let a = and_parts (eqb k n) _ w in
           let b = and_parts (same f.name y) _ a.1 in
-          let e : k ≡ n = eqb_is k n a.0 in
-          let l : length f.params ≡ c = eqb_is _ _ b.1 in
+          let e : k ≡ n = eqb-true k n a.0 in
+          let l : length f.params ≡ c = eqb-true _ _ b.1 in
           let z : f.name ≡ y = same_is f.name y (T_of b.0) in
           subst (λ j. seek n y c (define j fs ds) ≡ none) (sym e) (seek-define n y c fs ds (h e) ∙ subst (λ x. function_of fs x c ≡ none) z (subst (λ i. function_of fs f.name i ≡ none) l (alike_none fs f.name (length f.params) p.0))),
       once_define k n y c fs ds r.1 h o,
@@ -99,7 +99,7 @@ function_different (h ∷ fs) y c {f} s e =
     go (same h.name y && eqb (length h.params) c) refl e q.0 (function_different fs y c r.1)
   where
     go : (t : Bool) → (same h.name y && eqb (length h.params) c) ≡ t → cond t (some h) (function_of fs y c) ≡ some f → all_different h.params ≡ true → (function_of fs y c ≡ some f → (length f.params ≡ c) × (all_different f.params ≡ true)) → (length f.params ≡ c) × (all_different f.params ≡ true)
-    go true w e d more = let z : h ≡ f = some_is e in (subst (λ (i : Function). length i.params ≡ c) z (eqb_is _ _ (and_parts _ _ w).1), subst (λ (i : Function). all_different i.params ≡ true) z d)
+    go true w e d more = let z : h ≡ f = some_is e in (subst (λ (i : Function). length i.params ≡ c) z (eqb-true _ _ (and_parts _ _ w).1), subst (λ (i : Function). all_different i.params ≡ true) z d)
     go false w e d more = more e
 
 sound-section : (g : Program) (n : ℕ) {m : Module} → sound_modules g ≡ true → section g n ≡ some m → sound_functions m.functions ≡ true
@@ -257,7 +257,7 @@ functions_at (a ∷ ms) (suc n) {m} e = go (same a.name m.name) (version_counts 
 
     go : (t : Bool) → 1 ≤ v → functions_of ms m.name v ≡ some m.functions → cond t (cond (eqb (cond t 1 0 + v) 1) (some a.functions) (functions_of ms m.name (pred (cond t 1 0 + v)))) (functions_of ms m.name (cond t 1 0 + v)) ≡ some m.functions
     go true h more =
-        let z : eqb (1 + v) 1 ≡ false = eqb_no (1 + v) 1 (λ q. omega arith) in
+        let z : eqb (1 + v) 1 ≡ false = ne_eqb (1 + v) 1 (λ q. omega arith) in
         let p : pred (1 + v) ≡ v = omega arith in
         rw (z, p) more
     go false h more = let p : 0 + v ≡ v = omega arith in rw p more

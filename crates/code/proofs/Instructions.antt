@@ -1,5 +1,5 @@
 -- Each form of an expression has kinds of its own, so the kind of a slot tells the form; a statement's is none of them.
-use Rattle.std.proofs.Common.{◌≡◌, ℕ, ◌^◌, cond, List, pos, sym, ap, subst, lt-ltb, ne_eqb}
+use Rattle.std.proofs.Common.{◌≡◌, ℕ, ◌^◌, cond, List, Option, Some, None, pos, sym, ap, subst, lt-ltb, ne_eqb}
 use Rattle.meaning.specs.Basics.{Name}
 use Rattle.meaning.specs.Syntax.{Operation, make_tuple, make_pair, call, far_call, spawn, far_spawn, operate, built_in, Expr, int, atom, var, nil, apply, case, receive, receive_until, catch, no_e, and_e, Body, last, bind}
 use Rattle.meaning.specs.Values.{v_int, v_atom, v_nil}
@@ -8,8 +8,6 @@ use Rattle.code.specs.Instruction.{instruction_of, instruction_at, start_of, sta
 use Rattle.code.specs.Trees.{tree_o}
 use Rattle.code.specs.declared.instruction.Instruction.{Instruction}
 use Rattle.code.specs.declared.instruction.Instruction.TheVariants.{Unknown, Apply}
-use Rattle.code.specs.declared.instruction.Start.{Start}
-use Rattle.code.specs.declared.instruction.Start.TheVariants.{Statement, Last}
 use Rattle.store.specs.Heap.{Store, Den, left_of, right_of}
 use Rattle.store.specs.Tree.{leaf}
 use Rattle.store.specs.declared.slot.Slot.{Slot}
@@ -70,11 +68,11 @@ not_statement {ns} {sc} {code} {s} e c q = not_unknown (subst (λ k. Instruction
 start_is : {ns sc : List Name} {code : Store} {s : Slot} (b : Body) → CodeB ns sc code s b → StartIs ns sc code s (start_at code.words s) b
 start_is {ns} {sc} {code} {s} (last e) c =
     let alone : CodeE ns sc code s e = record { stands = c.stands; fine = c.fine } in
-    subst (λ t. StartIs ns sc code s (cond t (Statement (left_of code.words (right_of code.words s))) Last) (last e)) (sym (ne_eqb s.kind 25 (not_statement e alone))) (last_is alone)
+    subst (λ t. StartIs ns sc code s (cond t (Some (left_of code.words (right_of code.words s))) None) (last e)) (sym (ne_eqb s.kind 25 (not_statement e alone))) (last_is alone)
 start_is {ns} {sc} {code} {s} (bind p e b) c =
     subst (λ k. StartIs ns sc code s (start_of code.words s k) (bind p e b)) (sym (node_is c.stands))
     (statement_is (record { stands = node_left (node_right c.stands); fine = c.fine.1 }) c)
 
 -- what the decoder gives
-pub start_as : {ns sc : List Name} {code : Store} {s : Slot} {b : Body} {r : Start} → r ≡ start_at code.words s → CodeB ns sc code s b → StartIs ns sc code s r b
+pub start_as : {ns sc : List Name} {code : Store} {s : Slot} {b : Body} {r : Option Slot} → r ≡ start_at code.words s → CodeB ns sc code s b → StartIs ns sc code s r b
 start_as {ns} {sc} {code} {s} {b} q c = subst (λ i. StartIs ns sc code s i b) (sym q) (start_is b c)

@@ -5,6 +5,7 @@ pub mod Functions
 pub mod Variables
 pub mod Decoding
 pub mod Chains
+pub mod Turning
 pub mod Nesting
 pub mod Wider
 pub mod Fineness

@@ -3,17 +3,18 @@ use Rattle.std.proofs.Common.{◌≡◌, ℕ, List, sym, subst}
 use Rattle.meaning.specs.Basics.{Name}
 use Rattle.meaning.specs.Syntax.{Operator as Sign, plus, minus, times, divide, modulo, equal, unequal, less, at_most, Builtin as Named, send, self, link, exit, trap, show, register, whereis, swap, Operation as Done, make_tuple, make_pair, call, far_call, spawn, far_spawn, operate, built_in}
 use Rattle.code.specs.Fine.{FineO, Takes}
-use Rattle.code.specs.Operation.{operator_numbered, builtin_numbered, far_of, far_at, operation_of, operation_at, FarIs, OperationIs, make_tuple_is, make_pair_is, call_is, spawn_is, far_call_is, far_spawn_is, operate_is, built_in_is}
+use Rattle.code.specs.Operation.{operator_numbered, builtin_numbered, done_by, far_of, far_at, operation_of, operation_at, FarIs, OperationIs, make_tuple_is, make_pair_is, call_is, spawn_is, far_call_is, far_spawn_is, operate_is, built_in_is}
 use Rattle.code.specs.Trees.{tree_o, operator_number, builtin_number}
 use Rattle.code.specs.declared.operation.Builtin.TheVariants.{Send, Itself, Link, Exit, Trap, Show, Register, Whereis, Swap}
 use Rattle.code.specs.declared.operation.Operation.{Operation}
+use Rattle.code.specs.declared.operation.Operation.TheVariants.{Operate, BuiltIn}
 use Rattle.code.specs.declared.operation.Operator.TheVariants.{Plus, Minus, Times, Divide, Modulo, Equal, Unequal, Less, AtMost}
 use Rattle.store.specs.Heap.{Store, Den, left_of, right_of}
 use Rattle.store.specs.declared.slot.Slot.{Slot}
 use Rattle.store.proofs.Laws.{node_is, node_left, node_right}
 use Rattle.code.proofs.Instructions.{leaf_has_kind, leaf_has_low, leaf_has_high}
 
-operator_is : {ns : List Name} {n : ℕ} (o : Sign) → n ≡ 2 → OperationIs ns (operator_numbered (operator_number o)) (operate o) n
+operator_is : {ns : List Name} {n : ℕ} (o : Sign) → n ≡ 2 → OperationIs ns (done_by Operate (operator_numbered (operator_number o))) (operate o) n
 operator_is plus q = operate_is Plus q
 operator_is minus q = operate_is Minus q
 operator_is times q = operate_is Times q
@@ -24,7 +25,7 @@ operator_is unequal q = operate_is Unequal q
 operator_is less q = operate_is Less q
 operator_is at_most q = operate_is AtMost q
 
-builtin_is : {ns : List Name} {n : ℕ} (b : Named) → Takes b n → OperationIs ns (builtin_numbered (builtin_number b)) (built_in b) n
+builtin_is : {ns : List Name} {n : ℕ} (b : Named) → Takes b n → OperationIs ns (done_by BuiltIn (builtin_numbered (builtin_number b))) (built_in b) n
 builtin_is send q = built_in_is Send q
 builtin_is self q = built_in_is Itself q
 builtin_is link q = built_in_is Link q
@@ -58,8 +59,8 @@ operation_is {ns} {code} {s} {n} o f d = go o f d
     go (far_spawn h y) f d =
         let far : FarIs ns (far_at one two) h y n = record { owner_at = leaf_has_low (node_right d); owner_known = f.0; function_at = leaf_has_low (node_left d); function_known = f.1; count_is = leaf_has_high (node_left d) } in
         tells (node_is d) (subst (λ k. OperationIs ns (far_of one two k) (far_spawn h y) n) (sym (leaf_has_kind (node_left d))) (far_spawn_is far))
-    go (operate o) f d = tells (leaf_has_kind d) (subst (λ l. OperationIs ns (operator_numbered l) (operate o) n) (sym (leaf_has_low d)) (operator_is o f))
-    go (built_in b) f d = tells (leaf_has_kind d) (subst (λ l. OperationIs ns (builtin_numbered l) (built_in b) n) (sym (leaf_has_low d)) (builtin_is b f))
+    go (operate o) f d = tells (leaf_has_kind d) (subst (λ l. OperationIs ns (done_by Operate (operator_numbered l)) (operate o) n) (sym (leaf_has_low d)) (operator_is o f))
+    go (built_in b) f d = tells (leaf_has_kind d) (subst (λ l. OperationIs ns (done_by BuiltIn (builtin_numbered l)) (built_in b) n) (sym (leaf_has_low d)) (builtin_is b f))
 
 -- what the decoder gives
 pub operation_as : {ns : List Name} {code : Store} {s : Slot} {n : ℕ} {o : Done} {r : Operation} → r ≡ operation_at code.words s → FineO ns o n → Den code s (tree_o ns o n) → OperationIs ns r o n

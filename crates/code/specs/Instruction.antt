@@ -1,5 +1,5 @@
 -- What a slot of the code is read as: an expression's outermost part, and what a body begins with.
-use Rattle.std.specs.Prelude.{◌≡◌, ℕ, Bool, cond, ◌&&◌, ◌||◌, List, pos, ◌==◌, nat_le}
+use Rattle.std.specs.Prelude.{◌≡◌, ℕ, Bool, cond, ◌&&◌, ◌||◌, List, Option, Some, None, pos, ◌==◌, nat_le}
 use Rattle.meaning.specs.Basics.{Name}
 use Rattle.meaning.specs.Syntax.{Pattern, Operation, Expr, int, atom, var, nil, apply, case, receive, receive_until, catch, Exprs, Body, last, bind, Clauses}
 use Rattle.meaning.specs.Values.{Value, v_int, v_atom, v_nil}
@@ -8,8 +8,6 @@ use Rattle.code.specs.Code.{CodeE, CodeEs, CodeB}
 use Rattle.code.specs.Kinds.{variable_kind, case_kind, receive_kind, until_kind, catch_kind, statement_kind}
 use Rattle.code.specs.declared.instruction.Instruction.{Instruction}
 use Rattle.code.specs.declared.instruction.Instruction.TheVariants.{Constant, Variable, Apply, Case, Receive, ReceiveUntil, Catch, Unknown}
-use Rattle.code.specs.declared.instruction.Start.{Start}
-use Rattle.code.specs.declared.instruction.Start.TheVariants.{Statement, Last}
 use Rattle.store.specs.Heap.{Store, left_of, right_of}
 use Rattle.store.specs.declared.slot.Slot.{Slot}
 use Rattle.values.specs.Encoding.{index_of, Known, Holds}
@@ -32,10 +30,11 @@ instruction_of code s k =
 abbrev pub instruction_at : List ℕ → Slot → Instruction
 instruction_at code s = instruction_of code s s.kind
 
-abbrev pub start_of : List ℕ → Slot → ℕ → Start
-start_of code s k = cond (k == statement_kind) (Statement (left_of code (right_of code s))) Last
+-- the expression of the statement that a body begins with, if it begins with one
+abbrev pub start_of : List ℕ → Slot → ℕ → Option Slot
+start_of code s k = cond (k == statement_kind) (Some (left_of code (right_of code s))) None
 
-abbrev pub start_at : List ℕ → Slot → Start
+abbrev pub start_at : List ℕ → Slot → Option Slot
 start_at code s = start_of code s s.kind
 
 -- expressions that are values, whose slot holds that value in every store
@@ -58,6 +57,6 @@ pub data InstructionIs (ns sc : List Name) (code : Store) (s : Slot) : Instructi
   catch_is : {p : Slot} {b : Body} → CodeB ns sc code p b → InstructionIs ns sc code s (Catch p) (catch b)
 
 -- the slot s, read as what a body starts with, is the body
-pub data StartIs (ns sc : List Name) (code : Store) (s : Slot) : Start → Body → Type 0 where
-  statement_is : {q : Slot} {p : Pattern} {e : Expr} {b : Body} → CodeE ns sc code q e → CodeB ns sc code s (bind p e b) → StartIs ns sc code s (Statement q) (bind p e b)
-  last_is : {e : Expr} → CodeE ns sc code s e → StartIs ns sc code s Last (last e)
+pub data StartIs (ns sc : List Name) (code : Store) (s : Slot) : Option Slot → Body → Type 0 where
+  statement_is : {q : Slot} {p : Pattern} {e : Expr} {b : Body} → CodeE ns sc code q e → CodeB ns sc code s (bind p e b) → StartIs ns sc code s (Some q) (bind p e b)
+  last_is : {e : Expr} → CodeE ns sc code s e → StartIs ns sc code s None (last e)

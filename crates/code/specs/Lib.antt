@@ -4,6 +4,7 @@ pub mod Trees
 pub mod Fine
 pub mod Program
 pub mod Environment
+pub mod Turning
 pub mod Code
 pub mod Instruction
 pub mod Operation

@@ -1,5 +1,5 @@
 -- What the end of a chain of operands is read as.
-use Rattle.std.specs.Prelude.{◌≡◌, ℕ, cond, List, ◌==◌}
+use Rattle.std.specs.Prelude.{◌≡◌, ℕ, cond, List, Result, Ok, Err, ◌==◌}
 use Rattle.meaning.specs.Basics.{Name}
 use Rattle.meaning.specs.Syntax.{Operator as Sign, plus, minus, times, divide, modulo, equal, unequal, less, at_most, Builtin as Named, send, self, link, exit, trap, show, register, whereis, swap, Operation as Done, make_tuple, make_pair, call, far_call, spawn, far_spawn, operate, built_in}
 use Rattle.code.specs.Fine.{Takes}
@@ -11,6 +11,7 @@ use Rattle.code.specs.declared.operation.Operation.{Operation}
 use Rattle.code.specs.declared.operation.Operation.TheVariants.{MakeTuple, MakePair, Call, Spawn, FarCall, FarSpawn, Operate, BuiltIn, Unknown}
 use Rattle.code.specs.declared.operation.Operator.{Operator}
 use Rattle.code.specs.declared.operation.Operator.TheVariants.{Plus, Minus, Times, Divide, Modulo, Equal, Unequal, Less, AtMost}
+use Rattle.code.specs.declared.operation.UnknownNumber.{UnknownNumber}
 use Rattle.store.specs.Heap.{left_of, right_of}
 use Rattle.store.specs.declared.slot.Slot.{Slot}
 use Rattle.values.specs.Encoding.{index_of, Known}
@@ -37,29 +38,36 @@ builtin_of Register = register
 builtin_of Whereis = whereis
 builtin_of Swap = swap
 
-abbrev pub operator_numbered : ℕ → Operation
+-- the operator of a number
+abbrev pub operator_numbered : ℕ → Result Operator UnknownNumber
 operator_numbered n =
-    cond (n == 0) (Operate Plus)
-    (cond (n == 1) (Operate Minus)
-    (cond (n == 2) (Operate Times)
-    (cond (n == 3) (Operate Divide)
-    (cond (n == 4) (Operate Modulo)
-    (cond (n == 5) (Operate Equal)
-    (cond (n == 6) (Operate Unequal)
-    (cond (n == 7) (Operate Less)
-    (cond (n == 8) (Operate AtMost) Unknown))))))))
+    cond (n == 0) (Ok Plus)
+    (cond (n == 1) (Ok Minus)
+    (cond (n == 2) (Ok Times)
+    (cond (n == 3) (Ok Divide)
+    (cond (n == 4) (Ok Modulo)
+    (cond (n == 5) (Ok Equal)
+    (cond (n == 6) (Ok Unequal)
+    (cond (n == 7) (Ok Less)
+    (cond (n == 8) (Ok AtMost) (Err (record {}))))))))))
 
-abbrev pub builtin_numbered : ℕ → Operation
+-- the built-in function of a number
+abbrev pub builtin_numbered : ℕ → Result Builtin UnknownNumber
 builtin_numbered n =
-    cond (n == 0) (BuiltIn Send)
-    (cond (n == 1) (BuiltIn Itself)
-    (cond (n == 2) (BuiltIn Link)
-    (cond (n == 3) (BuiltIn Exit)
-    (cond (n == 4) (BuiltIn Trap)
-    (cond (n == 5) (BuiltIn Show)
-    (cond (n == 6) (BuiltIn Register)
-    (cond (n == 7) (BuiltIn Whereis)
-    (cond (n == 8) (BuiltIn Swap) Unknown))))))))
+    cond (n == 0) (Ok Send)
+    (cond (n == 1) (Ok Itself)
+    (cond (n == 2) (Ok Link)
+    (cond (n == 3) (Ok Exit)
+    (cond (n == 4) (Ok Trap)
+    (cond (n == 5) (Ok Show)
+    (cond (n == 6) (Ok Register)
+    (cond (n == 7) (Ok Whereis)
+    (cond (n == 8) (Ok Swap) (Err (record {}))))))))))
+
+-- what is done by the operator or the built-in function of a number, if there is one
+abbrev pub done_by : {A : Type 0} → (A → Operation) → Result A UnknownNumber → Operation
+done_by f (Ok x) = f x
+done_by f (Err e) = Unknown
 
 -- the function that a call or a spawn and a module's name say
 abbrev pub far_at : Slot → Slot → Far
@@ -74,8 +82,8 @@ operation_of code s k =
     (cond (k == make_pair_kind) MakePair
     (cond (k == call_kind) (Call (record { 0 = s.low }) s.high)
     (cond (k == spawn_kind) (Spawn (record { 0 = s.low }) s.high)
-    (cond (k == operator_kind) (operator_numbered s.low)
-    (cond (k == builtin_kind) (builtin_numbered s.low)
+    (cond (k == operator_kind) (done_by Operate (operator_numbered s.low))
+    (cond (k == builtin_kind) (done_by BuiltIn (builtin_numbered s.low))
     (cond (k == far_kind) (far_of (left_of code s) (right_of code s) (left_of code s).kind) Unknown))))))
 
 abbrev pub operation_at : List ℕ → Slot → Operation

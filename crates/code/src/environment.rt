@@ -2,7 +2,7 @@
 
 ghost use Rattle.code.specs.Environment.{LooksUp};
 
-use store::{Heap, Slot};
+use store::{Cells, Heap, Slot};
 
 /// The value of the name of that index.
 pub fn look_up(heap: &Heap<'_>, env: Slot, index: u32) -> Slot

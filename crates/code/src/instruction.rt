@@ -6,11 +6,11 @@ ghost use Rattle.code.specs.Instruction.{instruction_at, start_at};
 use crate::kinds::{
     BUILTIN, CASE, CATCH, FAR, MAKE_TUPLE, OPERAND, RECEIVE, STATEMENT, UNTIL, VARIABLE,
 };
-use store::{Slot, left, right};
+use store::{Cells, Slot};
 use values::{NIL, NUMBER};
 
 /// The outermost part of an expression.
-#[derive(Clone, Copy)]
+#[derive(Clone, Copy, Debug, PartialEq, Eq)]
 pub enum Instruction {
     /// A number, an atom or nil: the slot itself is that of the value.
     Constant,
@@ -28,38 +28,30 @@ pub enum Instruction {
     Unknown,
 }
 
-/// What a body begins with.
-#[derive(Clone, Copy)]
-pub enum Start {
-    /// `p = e` before a rest: the slot is that of e.
-    Statement(Slot),
-    /// An expression alone.
-    Last,
-}
-
-/// The outermost part of the expression that the slot begins.
-pub fn read_instruction(code: &[u32], slot: Slot) -> Instruction
-    ensures { result ≡ instruction_at code.now slot }
-{
-    match slot.kind {
-        NUMBER..=NIL => Instruction::Constant,
-        VARIABLE => Instruction::Variable(slot.low),
-        MAKE_TUPLE..=BUILTIN => Instruction::Apply,
-        OPERAND..=FAR => Instruction::Apply,
-        CASE => Instruction::Case(left(code, slot)),
-        RECEIVE => Instruction::Receive,
-        UNTIL => Instruction::ReceiveUntil(left(code, right(code, slot))),
-        CATCH => Instruction::Catch(left(code, slot)),
-        _ => Instruction::Unknown,
+impl Instruction {
+    /// The outermost part of the expression that the slot begins.
+    pub fn read(code: &[u32], slot: Slot) -> Instruction
+        ensures { result ≡ instruction_at code.now slot }
+    {
+        match slot.kind {
+            NUMBER..=NIL => Instruction::Constant,
+            VARIABLE => Instruction::Variable(slot.low),
+            MAKE_TUPLE..=BUILTIN | OPERAND..=FAR => Instruction::Apply,
+            CASE => Instruction::Case(code.left(slot)),
+            RECEIVE => Instruction::Receive,
+            UNTIL => Instruction::ReceiveUntil(code.left(code.right(slot))),
+            CATCH => Instruction::Catch(code.left(slot)),
+            _ => Instruction::Unknown,
+        }
     }
 }
 
-/// What the body that the slot begins starts with.
-pub fn read_body(code: &[u32], slot: Slot) -> Start
-    ensures { result ≡ start_at code.now slot }
+/// The expression of the statement that the body begins with; none where the body is an expression alone.
+pub fn first_statement(code: &[u32], body: Slot) -> Option<Slot>
+    ensures { result ≡ start_at code.now body }
 {
-    match slot.kind {
-        STATEMENT => Start::Statement(left(code, right(code, slot))),
-        _ => Start::Last,
+    match body.kind {
+        STATEMENT => Some(code.left(code.right(body))),
+        _ => None,
     }
 }

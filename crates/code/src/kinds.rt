@@ -1,6 +1,12 @@
 //! The kinds of slots in which a program stands, beside those of values; kinds below 16 are leaves.
+//! They are numbers, as any number may stand in the lent words; a `match` decodes each once, into an enum.
 
 pub const VARIABLE: u32 = 5;
+
+/// The kinds of the patterns that match anything, without and with a name.
+pub const ANY: u32 = 6;
+
+pub const BIND: u32 = 7;
 
 pub const MAKE_TUPLE: u32 = 8;
 
@@ -27,6 +33,9 @@ pub const UNTIL: u32 = 22;
 pub const CATCH: u32 = 24;
 
 pub const STATEMENT: u32 = 25;
+
+/// The kind of a clause before others.
+pub const CLAUSES: u32 = 27;
 
 pub const FUNCTIONS: u32 = 29;
 

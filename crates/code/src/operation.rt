@@ -4,11 +4,11 @@ ghost use Rattle.std.specs.Prelude.{◌≡◌};
 ghost use Rattle.code.specs.Operation.{builtin_numbered, far_of, operation_at, operator_numbered};
 
 use crate::kinds::{BUILTIN, CALL, FAR, MAKE_PAIR, MAKE_TUPLE, OPERATOR, SPAWN};
-use store::{Slot, left, right};
+use store::{Cells, Slot};
 use values::Atom;
 
 /// `+ - * / % == != < <=`
-#[derive(Clone, Copy)]
+#[derive(Clone, Copy, Debug, PartialEq, Eq)]
 pub enum Operator {
     Plus,
     Minus,
@@ -22,7 +22,7 @@ pub enum Operator {
 }
 
 /// The built-in functions.
-#[derive(Clone, Copy)]
+#[derive(Clone, Copy, Debug, PartialEq, Eq)]
 pub enum Builtin {
     Send,
     Itself,
@@ -36,7 +36,7 @@ pub enum Builtin {
 }
 
 /// A function of another module, by the numbers of its name and its module, and how many arguments it gets.
-#[derive(Clone, Copy)]
+#[derive(Clone, Copy, Debug, PartialEq, Eq)]
 pub struct Far {
     pub owner: Atom,
     pub function: Atom,
@@ -44,7 +44,7 @@ pub struct Far {
 }
 
 /// An operation on operands; a call and a spawn have the function's name and how many arguments it gets.
-#[derive(Clone, Copy)]
+#[derive(Clone, Copy, Debug, PartialEq, Eq)]
 pub enum Operation {
     MakeTuple,
     MakePair,
@@ -57,53 +57,67 @@ pub enum Operation {
     Unknown,
 }
 
-/// The operation in which a chain of operands ends.
-pub fn read_operation(code: &[u32], slot: Slot) -> Operation
-    ensures { result ≡ operation_at code.now slot }
-{
-    match slot.kind {
-        MAKE_TUPLE => Operation::MakeTuple,
-        MAKE_PAIR => Operation::MakePair,
-        CALL => Operation::Call(Atom(slot.low), slot.high),
-        SPAWN => Operation::Spawn(Atom(slot.low), slot.high),
-        OPERATOR => read_operator(slot.low),
-        BUILTIN => read_builtin(slot.low),
-        FAR => read_far(left(code, slot), right(code, slot)),
-        _ => Operation::Unknown,
+/// A number that no operator and no built-in function has.
+#[derive(Clone, Copy, Debug, PartialEq, Eq)]
+pub struct UnknownNumber;
+
+impl TryFrom<u32> for Operator {
+    type Error = UnknownNumber;
+
+    ghost try_from_gives = { λ number r. r ≡ operator_numbered number };
+
+    fn try_from(number: u32) -> Result<Operator, UnknownNumber> {
+        match number {
+            0 => Ok(Operator::Plus),
+            1 => Ok(Operator::Minus),
+            2 => Ok(Operator::Times),
+            3 => Ok(Operator::Divide),
+            4 => Ok(Operator::Modulo),
+            5 => Ok(Operator::Equal),
+            6 => Ok(Operator::Unequal),
+            7 => Ok(Operator::Less),
+            8 => Ok(Operator::AtMost),
+            _ => Err(UnknownNumber),
+        }
     }
 }
 
-fn read_operator(number: u32) -> Operation
-    ensures { result ≡ operator_numbered number }
-{
-    match number {
-        0 => Operation::Operate(Operator::Plus),
-        1 => Operation::Operate(Operator::Minus),
-        2 => Operation::Operate(Operator::Times),
-        3 => Operation::Operate(Operator::Divide),
-        4 => Operation::Operate(Operator::Modulo),
-        5 => Operation::Operate(Operator::Equal),
-        6 => Operation::Operate(Operator::Unequal),
-        7 => Operation::Operate(Operator::Less),
-        8 => Operation::Operate(Operator::AtMost),
-        _ => Operation::Unknown,
+impl TryFrom<u32> for Builtin {
+    type Error = UnknownNumber;
+
+    ghost try_from_gives = { λ number r. r ≡ builtin_numbered number };
+
+    fn try_from(number: u32) -> Result<Builtin, UnknownNumber> {
+        match number {
+            0 => Ok(Builtin::Send),
+            1 => Ok(Builtin::Itself),
+            2 => Ok(Builtin::Link),
+            3 => Ok(Builtin::Exit),
+            4 => Ok(Builtin::Trap),
+            5 => Ok(Builtin::Show),
+            6 => Ok(Builtin::Register),
+            7 => Ok(Builtin::Whereis),
+            8 => Ok(Builtin::Swap),
+            _ => Err(UnknownNumber),
+        }
     }
 }
 
-fn read_builtin(number: u32) -> Operation
-    ensures { result ≡ builtin_numbered number }
-{
-    match number {
-        0 => Operation::BuiltIn(Builtin::Send),
-        1 => Operation::BuiltIn(Builtin::Itself),
-        2 => Operation::BuiltIn(Builtin::Link),
-        3 => Operation::BuiltIn(Builtin::Exit),
-        4 => Operation::BuiltIn(Builtin::Trap),
-        5 => Operation::BuiltIn(Builtin::Show),
-        6 => Operation::BuiltIn(Builtin::Register),
-        7 => Operation::BuiltIn(Builtin::Whereis),
-        8 => Operation::BuiltIn(Builtin::Swap),
-        _ => Operation::Unknown,
+impl Operation {
+    /// The operation in which a chain of operands ends.
+    pub fn read(code: &[u32], slot: Slot) -> Operation
+        ensures { result ≡ operation_at code.now slot }
+    {
+        match slot.kind {
+            MAKE_TUPLE => Operation::MakeTuple,
+            MAKE_PAIR => Operation::MakePair,
+            CALL => Operation::Call(Atom(slot.low), slot.high),
+            SPAWN => Operation::Spawn(Atom(slot.low), slot.high),
+            OPERATOR => Operator::try_from(slot.low).map_or(Operation::Unknown, Operation::Operate),
+            BUILTIN => Builtin::try_from(slot.low).map_or(Operation::Unknown, Operation::BuiltIn),
+            FAR => read_far(code.left(slot), code.right(slot)),
+            _ => Operation::Unknown,
+        }
     }
 }
 

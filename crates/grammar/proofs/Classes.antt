@@ -22,7 +22,8 @@ use Rattle.grammar.specs.Classes.{s_arrow, Class, c_number, c_name, c_operator, 
 use Rattle.grammar.specs.Classes.{c_separate, c_other, Entry, table, class_in, number_of, class_of}
 use Rattle.grammar.specs.Expressions.{takes}
 use Rattle.grammar.specs.LookAhead.{landmark, l_none}
-use Rattle.meaning.proofs.Splits.{T_of, is_true, is_false, and_T, cond_all, opt_all, bool_all, none_some, same_is}
+use Rattle.std.proofs.lemmas.Bool.{cond_both}
+use Rattle.meaning.proofs.Splits.{T_of, is_true, is_false, and_T, opt_all, bool_all, none_some, same_is}
 
 -- what holds of one token and not of another tells them apart
 pub differ : (P : Name → Type 0) (x y : Name) → P x → (P y → ⊥) → same x y ≡ false
@@ -38,7 +39,7 @@ class_number w n h =
 pub no_number : (w : Name) → T (not (digit_first w)) → number_of w ≡ none
 no_number [] h = absurd h
 no_number (c ∷ cs) h =
-    cond_all (λ o. o ≡ none) (leb 1 (length (c ∷ cs)) && leb (length (c ∷ cs)) 18) (number_from 0 (c ∷ cs)) none
+    cond_both (leb 1 (length (c ∷ cs)) && leb (length (c ∷ cs)) 18) (number_from 0 (c ∷ cs)) none (λ o. o ≡ none)
     (λ e. ap (λ b. cond b (number_from (0 * 10 + (c - 48)) cs) none) (not-true (is_digit c) h)) (λ e. refl)
   where
     not-true : (b : Bool) → T (not b) → b ≡ false
@@ -121,7 +122,7 @@ pub data AllTell : List Entry → Type 0 where
 pub class_in_tells : {xs : List Entry} → AllTell xs → (w : Name) → Tells w (class_in xs w)
 class_in_tells no_more w = tt
 class_in_tells (◌also◌ {x = x} {xs = xs} h hs) w =
-    cond_all (Tells w) (same w x.text) x.class (class_in xs w)
+    cond_both (same w x.text) x.class (class_in xs w) (Tells w)
     (λ e. subst (λ y. Tells y x.class) (sym (same_is w x.text (T_of e))) h) (λ e. class_in_tells hs w)
 
 pub takes_only : {w : Name} {f : Builtin} (m : ℕ) → BuiltinWord w f m → (n : ℕ) → T (eqb n m) → BuiltinWord w f n
@@ -151,7 +152,7 @@ table_tells =
 pub class_tells : (w : Name) → Tells w (class_of w)
 class_tells w =
     opt_all (Tells w) (number_of w) (cond (is_name w) (c_name w) (class_in table w)) c_number
-    (λ e. cond_all (Tells w) (is_name w) (c_name w) (class_in table w) (λ h. (refl, T_of h))
+    (λ e. cond_both (is_name w) (c_name w) (class_in table w) (Tells w) (λ h. (refl, T_of h))
     (λ h. class_in_tells table_tells w))
     (λ n e. is_number n (leb 1 (length w) && leb (length w) 18) refl e)
   where

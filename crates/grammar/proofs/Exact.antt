@@ -15,7 +15,8 @@ use Rattle.grammar.specs.Promise.{ParseExactly, ReadExactly, NoProgram}
 use Rattle.meaning.specs.Promise.{OneProgram}
 use Rattle.grammar.specs.Machine.{parse}
 use Rattle.grammar.specs.Reading.{within_limits, checked, read}
-use Rattle.meaning.proofs.Splits.{is_true, cond-true, some_is, none_some, on_some_is}
+use Rattle.std.proofs.lemmas.Bool.{cond-true}
+use Rattle.meaning.proofs.Splits.{is_true, some_is, none_some, on_some_is}
 use Rattle.grammar.proofs.Complete.{complete}
 use Rattle.grammar.proofs.Sound.{sound}
 

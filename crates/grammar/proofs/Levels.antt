@@ -17,7 +17,8 @@ use Rattle.grammar.specs.Machine.{name_ends, clauses_end}
 use Rattle.grammar.specs.Patterns.{is_pair, after_pattern}
 use Rattle.grammar.specs.Stack.{ExprStack, operand, in_parens, in_list, in_case, in_until, in_statement, in_binding}
 use Rattle.grammar.specs.Stack.{PatternStack, in_cons}
-use Rattle.meaning.proofs.Splits.{eqb_isnt, is_true, and_T}
+use Rattle.std.proofs.lemmas.Bool.{eqb-false}
+use Rattle.meaning.proofs.Splits.{is_true, and_T}
 use Rattle.grammar.proofs.Classes.{differ}
 
 -- what may stand behind an expression of level n: what ends it, or an operator that leaves it whole
@@ -113,7 +114,7 @@ not_comparing (in_binding p xs k) h = refl
 
 -- where nothing but a comparison could wait, and none does, nothing waits
 pub may_compare : (k : ExprStack) → T (below 1 k) → comparing k ≡ false → T (fits 0 k)
-may_compare (operand m o a k) b h = absurd (eqb_isnt m _ h (omega (arith, ltb→lt m 1 b)))
+may_compare (operand m o a k) b h = absurd (eqb-false m _ h (omega (arith, ltb→lt m 1 b)))
 may_compare (in_parens k) b h = tt
 may_compare (in_list c o xs k) b h = tt
 may_compare (in_case k) b h = tt

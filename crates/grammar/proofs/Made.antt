@@ -24,7 +24,8 @@ use Rattle.grammar.specs.Stack.{after_spawn_colon, after_receive, after_clauses,
 use Rattle.grammar.specs.Stack.{want_pattern, have_pattern, after_pattern_quote, after_pattern_bracket, after_arrow}
 use Rattle.grammar.specs.Stack.{top_level, after_module, after_module_name, after_fn, after_fn_name, want_parameter}
 use Rattle.grammar.specs.Stack.{after_parameter, after_parameters, when}
-use Rattle.meaning.proofs.Splits.{T_of, cond_all, same_is, OnSome}
+use Rattle.std.proofs.lemmas.Bool.{cond_both}
+use Rattle.meaning.proofs.Splits.{T_of, same_is, OnSome}
 use Rattle.grammar.proofs.Classes.{Joins, left_level}
 use Rattle.grammar.proofs.Levels.{fits}
 use Rattle.grammar.proofs.Elements.{Made, Argument, Element, Parameter, StatementMade, ClauseMade, ModulesMade}
@@ -204,7 +205,7 @@ when_goes true s v h = h tt
 when_goes false s v h = tt
 
 pub cond_goes : (b : Bool) (x y : Option State) (v : List Name) → (T b → Goes x v) → Goes y v → Goes (cond b x y) v
-cond_goes b x y v h g = cond_all (λ o. Goes o v) b x y (λ e. h (T_of e)) (λ e. g)
+cond_goes b x y v h g = cond_both b x y (λ o. Goes o v) (λ e. h (T_of e)) (λ e. g)
 
 -- texts with one more behind them
 pub behind : {v u : List Name} → v ≡ u → (w : List Name) → v ++ w ≡ u ++ w

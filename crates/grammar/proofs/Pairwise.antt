@@ -14,7 +14,8 @@ use Rattle.meaning.specs.System.{function_of}
 use Rattle.meaning.specs.Bound.{bound_body, all_different, no_function, sound_functions}
 use Rattle.grammar.specs.Stack.{Snoc, none_yet, snoc, list_of}
 use Rattle.grammar.specs.Scopes.{newest}
-use Rattle.meaning.proofs.Splits.{bool_all, eqb_is, eqb_yes, eqb_no, eqb_isnt}
+use Rattle.std.proofs.lemmas.Bool.{eq-eqb, eqb-false, eqb-true, ne_eqb}
+use Rattle.meaning.proofs.Splits.{bool_all}
 
 abbrev pub apart : {A : Type 0} → (A → A → Bool) → A → List A → Bool
 apart r x [] = true
@@ -63,8 +64,8 @@ pairwise-newest r own symmetric (snoc xs x) ys =
 
 pub eqb_comm : (m n : ℕ) → eqb m n ≡ eqb n m
 eqb_comm m n =
-    bool_all (λ b. b ≡ eqb n m) (eqb m n) (λ h. sym (eqb_yes n m (sym (eqb_is m n h))))
-    (λ h. sym (eqb_no n m (λ e. eqb_isnt m n h (sym e))))
+    bool_all (λ b. b ≡ eqb n m) (eqb m n) (λ h. sym (eq-eqb n m (sym (eqb-true m n h))))
+    (λ h. sym (ne_eqb n m (λ e. eqb-false m n h (sym e))))
 
 pub same_comm : (x y : Name) → same x y ≡ same y x
 same_comm [] [] = refl

@@ -27,7 +27,8 @@ use Rattle.grammar.specs.Patterns.{begin_arm, close_without, is_pair, start_patt
 use Rattle.grammar.specs.Scopes.{newest, after_statements, scope, body_scope}
 use Rattle.grammar.specs.Checks.{fine_operands, fine_arms, fine_owner, fine_statements, fine_modules, fine_exprs}
 use Rattle.grammar.specs.Checks.{fine_body_stack, fine_patterns, fine_state, new_at_end, new_if_closed, passes_behind}
-use Rattle.meaning.proofs.Splits.{OnSome, cond_all}
+use Rattle.std.proofs.lemmas.Bool.{cond_both}
+use Rattle.meaning.proofs.Splits.{OnSome}
 use Rattle.grammar.proofs.Pairwise.{and_left_comm}
 use Rattle.grammar.proofs.Boundness.{reverse_alike, bound_body_alike, operands_bound, arms_bound, statements_bound}
 
@@ -68,8 +69,7 @@ fine_in e k = bound_expr (scope k) e && fine_exprs k
 
 pub reduce_fine : (t : ℕ) (e : Expr) (k : ExprStack) → fine_in (reduce t e k).expr (reduce t e k).stack ≡ fine_in e k
 reduce_fine t e (operand m o a k) =
-    cond_all (λ r. fine_in r.expr r.stack ≡ fine_in e (operand m o a k)) (leb t m) (reduce t (binary o a e) k)
-    (reduced e (operand m o a k))
+    cond_both (leb t m) (reduce t (binary o a e) k) (reduced e (operand m o a k)) (λ r. fine_in r.expr r.stack ≡ fine_in e (operand m o a k))
     (λ h. reduce_fine t (binary o a e) k
     ∙ with_last_operand (bound_expr (scope k) a) (bound_expr (scope k) e) (fine_exprs k))
     (λ h. refl)
@@ -82,8 +82,7 @@ reduce_fine t e (in_binding p xs k) = refl
 
 pub reduce-closes : (t : ℕ) (e : Expr) (k : ExprStack) → new_if_closed (reduce t e k).stack ≡ new_if_closed k
 reduce-closes t e (operand m o a k) =
-    cond_all (λ r. new_if_closed r.stack ≡ new_if_closed k) (leb t m) (reduce t (binary o a e) k)
-    (reduced e (operand m o a k)) (λ h. reduce-closes t (binary o a e) k) (λ h. refl)
+    cond_both (leb t m) (reduce t (binary o a e) k) (reduced e (operand m o a k)) (λ r. new_if_closed r.stack ≡ new_if_closed k) (λ h. reduce-closes t (binary o a e) k) (λ h. refl)
 reduce-closes t e (in_parens k) = refl
 reduce-closes t e (in_list c o xs k) = refl
 reduce-closes t e (in_case k) = refl

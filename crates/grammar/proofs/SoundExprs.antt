@@ -23,7 +23,8 @@ use Rattle.grammar.specs.Expressions.{close_body, close_expr, next_expr, next_st
 use Rattle.grammar.specs.Expressions.{start_expr, after_expr}
 use Rattle.grammar.specs.Machine.{name_ends, clauses_end}
 use Rattle.grammar.specs.Stack.{ExprStack, operand, BodyStack, State, want_expr}
-use Rattle.meaning.proofs.Splits.{T_of, cond_all, bool_all, same_is}
+use Rattle.std.proofs.lemmas.Bool.{cond_both}
+use Rattle.meaning.proofs.Splits.{T_of, bool_all, same_is}
 use Rattle.grammar.proofs.Classes.{Joins, comparison, pairing, sum, product, left_level, right_level, Tells}
 use Rattle.grammar.proofs.Classes.{class_tells}
 use Rattle.grammar.proofs.Levels.{ceiling, below, fits, may_compare}
@@ -102,7 +103,7 @@ pub reduce-sound :
     {k : ExprStack} {u : List Name} → ExprStackMade k u → (t n : ℕ) (e : Expr) (s v : List Name) → ExprAt n s e →
     T (fits n k) → t ≤ n → n ≤ 4 → v ≡ u ++ s → ReducedAt t (reduce t e k) v
 reduce-sound (made_operand {m = m} {j = j} {a = a} {k = k} {u = u} {s = x} {w = w} st c g o q) t n e s v d f l most is =
-    cond_all (λ r. ReducedAt t r v) (leb t m) (reduce t (binary j a e) k) (reduced e (operand m j a k))
+    cond_both (leb t m) (reduce t (binary j a e) k) (reduced e (operand m j a k)) (λ r. ReducedAt t r v)
     (λ h. reduce-sound st t m (binary j a e) (x ++ (w ∷ s)) v applied c (leb→le t m (T_of h))
     (omega (arith, tightness_at_most o))
     (is ∙ behind q s ∙ simp append_assoc))
@@ -134,7 +135,7 @@ pub shift-sound :
     (e : Expr) (s v : List Name) → ExprAt (left_level m) s e → T (below (left_level m) k) → v ≡ u ++ (s ++ (w ∷ [])) →
     Goes (shift m j e k) v
 shift-sound {k} st {j = j} (comparison o) e s v d b is =
-    cond_all (λ x. Goes x v) (comparing k) none (some (want_expr (operand 0 j e k))) (λ h. tt)
+    cond_both (comparing k) none (some (want_expr (operand 0 j e k))) (λ x. Goes x v) (λ h. tt)
     (λ h. at_want_expr (made_operand st (may_compare k b h) d (comparison o) is))
 shift-sound st pairing e s v d b is = at_want_expr (made_operand st b d pairing is)
 shift-sound st (sum o) e s v d b is = at_want_expr (made_operand st b d (sum o) is)

@@ -11,48 +11,36 @@ ghost use Rattle.grammar.specs.Promise.{TestedByToken, FineIsSound, StopsEarly, 
 ghost use Rattle.grammar.specs.Examples.{echo_text, echo_program, sums_text, sums_program, compared_text};
 
 /// A text is at most one program.
-pub fn one_program() -> u8
+pub fn one_program()
     ensures { OneProgram }
-{
-    0
-}
+{}
 
 /// Tokens, and whole texts, are a program exactly if the machine gives that program.
-pub fn read_exactly() -> u8
+pub fn read_exactly()
     ensures tokens { ParseExactly }
     ensures text { ReadExactly }
-{
-    0
-}
+{}
 
 /// Who reads a text may test each token as it comes: all tests together ask that the program is sound.
-pub fn tested_by_token() -> u8
+pub fn tested_by_token()
     ensures step { TestedByToken }
     ensures end { FineIsSound }
-{
-    0
-}
+{}
 
 /// Who reads a text may stop at the first token that fails its test: the text is no program, whatever follows.
-pub fn stops_early() -> u8
+pub fn stops_early()
     ensures state { StopsEarly }
     ensures token { StopsAtToken }
-{
-    0
-}
+{}
 
 /// Two texts are the programs that one expects, and a third is none.
-pub fn examples_read() -> u8
+pub fn examples_read()
     ensures echo { Reads echo_text echo_program }
     ensures sums { Reads sums_text sums_program }
     ensures refused { NoProgram compared_text }
-{
-    0
-}
+{}
 
 /// Five texts are the programs that they should be, show what they should, and end.
-pub fn worked_texts() -> u8
+pub fn worked_texts()
     ensures { WorkedTexts }
-{
-    0
-}
+{}

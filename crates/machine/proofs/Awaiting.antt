@@ -1,5 +1,5 @@
 -- A worker that waits does what the meaning says of its mailbox and of its time.
-use Rattle.std.proofs.Common.{◌≡◌, ℕ, ◌+◌, ◌*◌, ◌<◌, ◌≤◌, Bool, true, false, cond, List, length, sym, refl, ap, ◌∙◌, subst, arith}
+use Rattle.std.proofs.Common.{◌≡◌, ℕ, ◌+◌, ◌≤◌, Bool, true, false, cond, List, Ok, Err, Some, None, Result, IsErr, sym, refl, ap, ◌∙◌, subst, arith}
 use mathlib.Core.Option.{Option as Maybe, some, none}
 use Rattle.meaning.specs.Basics.{Name, opt}
 use Rattle.meaning.specs.Syntax.{Clauses}
@@ -18,19 +18,20 @@ use Rattle.meaning.specs.System.{
 }
 use Rattle.meaning.specs.Turns.{Taken as TookUp, goes_on, rebind, take_first, timed_out, look_at_mail}
 use Rattle.code.specs.Code.{CodeB, CodeCs}
-use Rattle.machine.specs.Receiving.{due_at, WaitedIs}
+use Rattle.machine.specs.Receiving.{due_at, NextIs, WaitEnds}
 use Rattle.machine.specs.State.{World, SiteIs, ControlIs, enter_is, wait_is, wait_until_is}
-use Rattle.machine.specs.declared.receiving.Waited.TheVariants.{Took, Late, Waits}
+use Rattle.machine.specs.declared.receiving.Next.TheVariants.{Took, Late, Waits}
+use Rattle.machine.specs.declared.receiving.Waited.{Waited}
 use Rattle.machine.specs.declared.state.Control.TheVariants.{Enter, Wait}
 use Rattle.machine.specs.declared.state.Site.{Site}
 use Rattle.matching.specs.Choices.{most_names}
 use Rattle.matching.specs.Mailboxes.{Mail}
-use Rattle.matching.specs.Receives.{Passed, new_cells, Takes, TakeLacks}
+use Rattle.matching.specs.Receives.{Passed, new_cells, TakeEnds, Takes, TakeLacks}
 use Rattle.matching.specs.declared.mailbox.Mailbox.{Mailbox}
-use Rattle.matching.specs.declared.receive.Received.{Received}
+use Rattle.matching.specs.declared.clause.Chosen.{Chosen}
 use Rattle.matching.specs.declared.receive.Taken.{Taken}
-use Rattle.matching.specs.declared.receive.Taken.TheVariants.{Found, Nothing}
 use Rattle.store.specs.Heap.{Store, store_of, Kept, left_of, right_of}
+use Rattle.store.specs.declared.slot.Full.{Full}
 use Rattle.store.specs.declared.slot.Slot.{Slot}
 use Rattle.meaning.proofs.Splits.{no_clash}
 use Rattle.store.proofs.Laws.{node_left, node_right}
@@ -93,19 +94,24 @@ module _ (x : World) (s : System) (me : Worker) {code : List ℕ} {m : Store} {p
   clauses_at q = subst (λ z. CodeCs x.names (awaits ci).scope x.code z cs)
       (sym (q ∙ ap (λ z. left_of z p) (sym e))) (awaits ci).clauses
 
-  pub take_full : {l : Slot} → l ≡ left_of code p → TakeLacks code m l b a.env →
-      length m.words < 6 * (m.used + (new_cells h + most_names cs))
-  take_full {l} q f = (subst (λ z. TakeLacks z m l b a.env) (sym e) f).short (clauses_at q) (awaits ci).site.env
-      h ps
+  takes_at : {m' : Store} {l : Slot} {o : Taken} → l ≡ left_of code p → Takes code m m' l b a.env o →
+      TakeEnds x.names (store_of x.code.words x.code.used) m m' cs w.vars me.mail (new_cells h) o.chosen o.mailbox
+  takes_at {m'} {l} {o} q f =
+      (subst (λ z. Takes z m m' l b a.env o) (sym e) f).to (clauses_at q) (awaits ci).site.env h ps
 
-  pub take_found : {m' : Store} {l : Slot} {r : Received} {o : Taken} → l ≡ left_of code p → o ≡ Found r →
+  pub take_full : (m' : Store) {l : Slot} (r : Result Waited Full) → IsErr r → l ≡ left_of code p →
+      TakeLacks code m l b a.env → WaitEnds x s me cs u w m m' (new_cells h + most_names cs) r
+  take_full m' (Ok r) i q f = no_clash i refl
+  take_full m' {l} (Err r) i q f = (subst (λ z. TakeLacks z m l b a.env) (sym e) f).short (clauses_at q)
+      (awaits ci).site.env h ps
+
+  pub take_found : {m' : Store} {l : Slot} {c : Chosen} {o : Taken} → l ≡ left_of code p → o.chosen ≡ Some c →
       Takes code m m' l b a.env o →
-      WaitedIs x s me cs u w m' (Took
-      (Enter r.chosen.body (record { env = r.chosen.env; section = a.section })) r.mailbox)
+      NextIs x s me cs u w m' o.mailbox (Took (Enter c.body (record { env = c.env; section = a.section })))
       × (m'.used ≤ m.used + (new_cells h + most_names cs))
-  take_found {m'} {l} {r} q is f =
-      let t = (subst (λ z. Takes z m m' l b a.env (Found r)) (sym e)
-      (subst (λ z. Takes code m m' l b a.env z) is f)).to (clauses_at q) (awaits ci).site.env h ps in
+  take_found {m'} {l} {c} {o} q is f =
+      let t = subst (λ z. TakeEnds x.names (store_of x.code.words x.code.used) m m' cs w.vars me.mail (new_cells h) z o.mailbox)
+      is (takes_at q f) in
       let si = (awaits ci).site.sited in (
         record {
           rest = t.taken.rest;
@@ -122,28 +128,29 @@ module _ (x : World) (s : System) (me : Worker) {code : List ℕ} {m : Store} {p
         t.count,
       )
 
-  pub take_waits : {m' : Store} {l : Slot} {b' : Mailbox} {o : Taken} {due : Bool} → l ≡ left_of code p →
-      due ≡ due_at s u → due ≡ false → o ≡ Nothing b' → Takes code m m' l b a.env o →
-      WaitedIs x s me cs u w m' (Waits b') × (m'.used ≤ m.used + (new_cells h + most_names cs))
-  take_waits {m'} {l} {b'} q d n is f =
-      let t = (subst (λ z. Takes z m m' l b a.env (Nothing b')) (sym e)
-      (subst (λ z. Takes code m m' l b a.env z) is f)).to (clauses_at q) (awaits ci).site.env h ps in (
+  pub take_waits : {m' : Store} {l : Slot} {o : Taken} {due : Bool} → l ≡ left_of code p →
+      due ≡ due_at s u → due ≡ false → o.chosen ≡ None → Takes code m m' l b a.env o →
+      NextIs x s me cs u w m' o.mailbox Waits × (m'.used ≤ m.used + (new_cells h + most_names cs))
+  take_waits {m'} {l} {o} q d n is f =
+      let t = subst (λ z. TakeEnds x.names (store_of x.code.words x.code.used) m m' cs w.vars me.mail (new_cells h) z o.mailbox)
+      is (takes_at q f) in (
         record {
           is = looked s me cs u w t.is ∙ not_due s me u w (sym d ∙ n);
           mail = t.mail_at;
+          all_seen = t.all_seen;
           passed =
               t.passed;
         },
         omega (arith, t.count),
       )
 
-  pub take_late : {m' : Store} {l i j : Slot} {b' : Mailbox} {o : Taken} {due : Bool} → l ≡ left_of code p →
-      i ≡ right_of code p → j ≡ right_of code i → due ≡ due_at s u → due ≡ true → Kept m m' → o ≡ Nothing b' →
-      Takes code m m' l b a.env o → WaitedIs x s me cs u w m' (Late (Enter j a) b')
+  pub take_late : {m' : Store} {l i j : Slot} {o : Taken} {due : Bool} → l ≡ left_of code p →
+      i ≡ right_of code p → j ≡ right_of code i → due ≡ due_at s u → due ≡ true → Kept m m' → o.chosen ≡ None →
+      Takes code m m' l b a.env o → NextIs x s me cs u w m' o.mailbox (Late (Enter j a))
       × (m'.used ≤ m.used + (new_cells h + most_names cs))
-  take_late {m'} {l} {i} {j} {b'} q ri rj d n g is f =
-      let t = (subst (λ z. Takes z m m' l b a.env (Nothing b')) (sym e)
-      (subst (λ z. Takes code m m' l b a.env z) is f)).to (clauses_at q) (awaits ci).site.env h ps in
+  take_late {m'} {l} {i} {j} {o} q ri rj d n g is f =
+      let t = subst (λ z. TakeEnds x.names (store_of x.code.words x.code.used) m m' cs w.vars me.mail (new_cells h) z o.mailbox)
+      is (takes_at q f) in
       let re : j ≡ right_of x.code.words (right_of x.code.words p) =
       rj ∙ (ap (right_of code) ri ∙ ap (λ z. right_of z (right_of z p)) (sym e)) in
       let late = goes_late s me ci re g (sym d ∙ n) in (

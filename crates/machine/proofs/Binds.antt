@@ -1,5 +1,5 @@
 -- A value that comes back to a pattern: what the pattern binds is the environment of the body behind it.
-use Rattle.std.proofs.Common.{◌≡◌, ℕ, ◌+◌, ◌*◌, ◌<◌, List, ◌∷◌, length, Some, None, Option, sym, ap, ◌∙◌, subst, arith}
+use Rattle.std.proofs.Common.{◌≡◌, ℕ, List, [], ◌∷◌, Some, None, Option, Result, IsErrAnd, sym, ap, ◌∙◌, subst, arith}
 use Rattle.meaning.specs.Basics.{Name, opt}
 use Rattle.meaning.specs.Atoms.{a_match, a_clause}
 use Rattle.meaning.specs.Syntax.{Pattern, Expr, case, Body, bind, Clauses, Program}
@@ -9,9 +9,13 @@ use Rattle.meaning.specs.Turns.{goes_on, error, rebind, resume}
 use Rattle.meaning.specs.Bound.{bound_by}
 use Rattle.code.specs.Code.{CodeP, CodeE, CodeB, CodeCs}
 use Rattle.machine.specs.Outcomes.{goes_on_is, Reached}
+use Rattle.machine.specs.Steps.{Answer}
 use Rattle.machine.specs.State.{World, Sited, SiteIs, FramesAt, enter_is, fail_is}
 use Rattle.machine.specs.declared.state.Control.TheVariants.{Enter, Fail}
+use Rattle.machine.specs.declared.state.Outcome.{Outcome}
 use Rattle.machine.specs.declared.state.Outcome.TheVariants.{GoesOn}
+use Rattle.machine.specs.declared.state.Refusal.{Refusal}
+use Rattle.machine.specs.declared.state.Refusal.TheVariants.{Full}
 use Rattle.machine.specs.declared.state.Site.{Site}
 use Rattle.matching.specs.Choices.{most_names, Chooses, ChoiceLacks}
 use Rattle.matching.specs.Matches.{names, Matches, MatchLacks}
@@ -21,7 +25,7 @@ use Rattle.store.specs.declared.slot.Slot.{Slot}
 use Rattle.values.specs.Encoding.{Holds}
 use Rattle.store.proofs.Laws.{node_left, node_right}
 use Rattle.machine.proofs.Standing.{frames_kept}
-use Rattle.machine.proofs.Stepping.{atom_holds}
+use Rattle.machine.proofs.Stepping.{atom_holds, no_room}
 
 -- the same section, with other bindings
 rebound : {g : Program} {n : ℕ} {w : Scope} (bs : List Binding) → Sited g n w → Sited g n (rebind w bs)
@@ -75,11 +79,12 @@ module _ (x : World) (s : System) (me : Worker) {code : List ℕ} {m : Store} {s
             omega (arith, f.spared is);
       })
 
-  pub bind_full : {m' : Store} {p : Slot} {q : Pattern} {d : Expr} {b : Body} {l : Slot} →
-      CodeB x.names sc x.code p (bind q d b) → l ≡ left_of code p → MatchLacks code m m' l v a.env →
-      length m.words < 6 * (m.used + names q)
-  bind_full {m' = m'} {l = l} c h f =
-      (subst (λ z. MatchLacks z m m' l v a.env) (sym e) f).short (pattern_in c h) hv si.env
+  pub bind_full : {m' : Store} (k : List Frame) {p : Slot} {q : Pattern} {d : Expr} {b : Body} {l : Slot}
+      (r : Result Outcome Refusal) → IsErrAnd r (λ z. z ≡ Full) → CodeB x.names sc x.code p (bind q d b) →
+      l ≡ left_of code p → MatchLacks code m m' l v a.env →
+      Answer x s me m m' [] (names q) [] r (resume x.program s me u (bind_frame q b w ∷ k))
+  bind_full {m' = m'} k {l = l} r i c h f = no_room x s me m m' _ _ r i
+      ((subst (λ z. MatchLacks z m m' l v a.env) (sym e) f).short (pattern_in c h) hv si.env)
 
   -- the clauses of a case
   clauses_in : {p : Slot} {d : Expr} {cs : Clauses} {l : Slot} → CodeE x.names sc x.code p (case d cs) →
@@ -123,8 +128,9 @@ module _ (x : World) (s : System) (me : Worker) {code : List ℕ} {m : Store} {s
             omega (arith, f.spared is);
       })
 
-  pub case_full : {m' : Store} {p : Slot} {d : Expr} {cs : Clauses} {l : Slot} →
-      CodeE x.names sc x.code p (case d cs) → l ≡ right_of code p → ChoiceLacks code m m' l v a.env →
-      length m.words < 6 * (m.used + most_names cs)
-  case_full {m' = m'} {l = l} c h f =
-      (subst (λ z. ChoiceLacks z m m' l v a.env) (sym e) f).short (clauses_in c h) hv si.env
+  pub case_full : {m' : Store} (k : List Frame) {p : Slot} {d : Expr} {cs : Clauses} {l : Slot}
+      (r : Result Outcome Refusal) → IsErrAnd r (λ z. z ≡ Full) → CodeE x.names sc x.code p (case d cs) →
+      l ≡ right_of code p → ChoiceLacks code m m' l v a.env →
+      Answer x s me m m' [] (most_names cs) [] r (resume x.program s me u (case_frame cs w ∷ k))
+  case_full {m' = m'} k {l = l} r i c h f = no_room x s me m m' _ _ r i
+      ((subst (λ z. ChoiceLacks z m m' l v a.env) (sym e) f).short (clauses_in c h) hv si.env)

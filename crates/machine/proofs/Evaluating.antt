@@ -1,5 +1,5 @@
 -- An expression is taken up as the meaning says: the instruction that was read tells which clause of it applies.
-use Rattle.std.proofs.Common.{◌≡◌, ℕ, suc, ◌+◌, ◌≤◌, List, [], reverse, length, Ok, Err, Result, sym, refl, ap, ◌∙◌, subst, arith}
+use Rattle.std.proofs.Common.{◌≡◌, ℕ, suc, ◌+◌, ◌≤◌, List, [], reverse, length, Ok, Err, Result, sym, ap, ◌∙◌, subst, arith}
 use Rattle.meaning.specs.Basics.{Name, opt}
 use Rattle.meaning.specs.Syntax.{
   Operation as Done,
@@ -40,19 +40,9 @@ use Rattle.code.specs.Instruction.{
 }
 use Rattle.code.specs.Trees.{tree_o, nothing}
 use Rattle.code.specs.declared.instruction.Instruction.{Instruction}
-use Rattle.code.specs.declared.instruction.Instruction.TheVariants.{
-  Constant,
-  Variable,
-  Apply,
-  Case,
-  Receive,
-  ReceiveUntil,
-  Catch,
-  Unknown,
-}
+use Rattle.code.specs.declared.instruction.Instruction.TheVariants.{Constant, Variable, Apply, Case, Receive, ReceiveUntil, Catch}
 use Rattle.machine.specs.Frames.{Framing}
 use Rattle.machine.specs.Outcomes.{goes_on_is, Reached, Runs}
-use Rattle.machine.specs.Performing.{PerformSim}
 use Rattle.machine.specs.State.{
   World,
   SiteIs,
@@ -66,7 +56,7 @@ use Rattle.machine.specs.State.{
   enter_is,
   wait_is,
 }
-use Rattle.machine.specs.Steps.{Answer, OperandsSim}
+use Rattle.machine.specs.Steps.{Answer, OperandsSim, EvaluateSim}
 use Rattle.machine.specs.declared.state.Control.TheVariants.{Eval, Give, Enter, Wait}
 use Rattle.machine.specs.declared.state.Outcome.{Outcome}
 use Rattle.machine.specs.declared.state.Outcome.TheVariants.{GoesOn}
@@ -103,21 +93,6 @@ not_operand ns (built_in b) n d k = omega (arith, k, leaf_has_kind d)
 
 module _ (x : World) (s : System) (me : Worker) {m : Store} {k : List Frame} {sc : List Name} {f : Slot} {a : Site}
     {w : Scope} (si : SiteIs x m sc a w) (fs : FramesAt x m f k) where
-  -- the chain has ended in the operation
-  pub operands_end : {code functions scratch : List ℕ} {m' : Store} {pid : ℕ} {q st : Slot} {o : Done}
-      (vs : List Value) (es : Exprs) (r : Result Outcome Refusal) → Runs x code functions → me.pid ≡ pid →
-      (q.kind ≡ 18 → ⊥) → CodeEs x.names sc x.code q o (length vs + count es) es →
-      Chain x.names m st (reverse vs) → PerformSim code functions m m' scratch pid q st a.section f r →
-      Answer x s me m m' scratch (3 + length vs) vs r (operands x.program k s me.pid w o vs es)
-  operands_end {scratch = scratch} {m' = m'} {q = q} {o = o} vs no_e r ru p nk c ch h =
-      let z : length vs + 0 ≡ length vs = omega arith in
-      let d : CodeEs x.names sc x.code q o (length vs) no_e =
-      subst (λ n. CodeEs x.names sc x.code q o n no_e) z c in
-      answer_from x s me m m m' scratch (1 + length vs) (3 + length vs) vs
-      (operands x.program k s me.pid w o vs no_e) r (omega arith) refl
-      (h.to x s me k o vs w ru p d.stands d.operation ch si.sited fs)
-  operands_end vs (and_e e es) r ru p nk c ch h = absurd (nk (node_is c.stands))
-
   -- one more operand
   pub operands_more : {code functions : List ℕ} {m₁ m₂ : Store} {q st l v t : Slot} {o : Done} (vs : List Value)
       (es : Exprs) → Runs x code functions → q.kind ≡ 18 →
@@ -223,12 +198,19 @@ module _ (x : World) (s : System) (me : Worker) {m : Store} {k : List Frame} {sc
     most = omega (arith, h.count);
   }
 
-pub evaluate_unknown : {ns sc : List Name} {code : Store} {p : Slot} {e : Expr} {A : Type 0} →
-    InstructionIs ns sc code p Unknown e → A
-evaluate_unknown i = elim i [ ]
-
 -- the instruction that the decoder gives
 pub instruction_in : {x : World} {code functions : List ℕ} {sc : List Name} {p : Slot} {e : Expr} {r : Instruction} →
     Runs x code functions → r ≡ instruction_at code p → CodeE x.names sc x.code p e →
     InstructionIs x.names sc x.code p r e
 instruction_in {p = p} q i c = instruction_as (i ∙ ap (λ z. instruction_at z p) (sym q.code_is)) c
+
+-- whatever the expression is that has the instruction read
+pub evaluated : {code functions scratch : List ℕ} {m m' : Store} {pid : ℕ} {p f : Slot} {a : Site}
+    {r : Result Outcome Refusal} {i : Instruction} → i ≡ instruction_at code p →
+    ((x : World) (s : System) (me : Worker) (k : List Frame) (sc : List Name) (e : Expr) (w : Scope) →
+    Runs x code functions → me.pid ≡ pid → SiteIs x m sc a w → FramesAt x m f k →
+    InstructionIs x.names sc x.code p i e →
+    Answer x s me m m' scratch 3 [] r (evaluate x.program k s me.pid e w)) →
+    EvaluateSim code functions m m' scratch pid p a f r
+evaluated h step =
+    record { to = λ x s me k sc e w q pid_is ce si fs. step x s me k sc e w q pid_is si fs (instruction_in q h ce) }

@@ -1,5 +1,5 @@
 -- Operators: the numbers' own contracts say which clause of the meaning applies.
-use Rattle.std.proofs.Common.{◌≡◌, ℕ, Bool, true, false, cond, not, List, [], ◌∷◌, ℤ, ◌+ℤ◌, ◌-ℤ◌, ◌*ℤ◌, Some, None, Ok, Err, Option, Result as Answered, sym, refl, ap, ◌∙◌, subst, inl, inr, arith, w64, SFits, to_z, of_z}
+use Rattle.std.proofs.Common.{◌≡◌, ℕ, Bool, true, false, cond, not, List, [], ◌∷◌, ℤ, ◌+ℤ◌, ◌-ℤ◌, ◌*ℤ◌, Some, None, Ok, Err, Option, Result, MatchResult, length, ◌+◌, ◌*◌, ◌<◌, sym, refl, ap, ◌∙◌, subst, inl, inr, arith, w64, SFits, to_z, of_z}
 use mathlib.Core.Option.{Option as Maybe, some, none}
 use Rattle.std.proofs.lemmas.Int.{to_z-of_z}
 use Rattle.meaning.specs.Basics.{Name, opt}
@@ -39,12 +39,12 @@ use Rattle.machine.specs.State.{World, give_is, fail_is}
 use Rattle.machine.specs.declared.state.Control.{Control}
 use Rattle.machine.specs.declared.state.Control.TheVariants.{Give, Fail}
 use Rattle.machine.specs.declared.state.Refusal.{Refusal}
-use Rattle.machine.specs.declared.state.Refusal.TheVariants.{Full, TooLarge}
 use Rattle.numbers.specs.Divided.{Divided}
 use Rattle.numbers.specs.Exact.{Exact}
-use Rattle.numbers.specs.declared.division.Division.{Division}
-use Rattle.numbers.specs.declared.division.Division.TheVariants.{Result, TooBig, ByZero}
-use Rattle.store.specs.Heap.{Store, Put, left_of, right_of}
+use Rattle.numbers.specs.declared.division.DivisionError.{DivisionError}
+use Rattle.numbers.specs.declared.division.DivisionError.TheVariants.{TooBig, ByZero}
+use Rattle.store.specs.Heap.{Store, Put, Lacks, left_of, right_of}
+use Rattle.store.specs.declared.slot.Full.{Full as NoRoom}
 use Rattle.store.specs.declared.slot.Slot.{Slot}
 use Rattle.values.specs.Encoding.{Fine, Holds}
 use Rattle.values.specs.Shape.{Stands}
@@ -100,17 +100,17 @@ module _ (x : World) (m : Store) where
   divided_by : (b z : ℤ) → is_zero b ≡ false → (k : List Frame) (t : System) → divided k t b z ≡ number k t z
   divided_by b z h k t = ap (λ q. cond q (error k t a_zero) (number k t z)) h
 
-  pub quotient_leads : {n : ℤ} (b z : ℤ) {s : Slot} → Divided (Result n) b z → Stands (Number n) s →
+  pub quotient_leads : {n : ℤ} (b z : ℤ) {s : Slot} → Divided (Ok n) b z → Stands (Number n) s →
       Leads x m (Give s) (λ k t. divided k t b z)
   quotient_leads b z h st = gives-number (λ k t. divided k t b z) h.1 h.2 st
       (λ k t. divided_by b z h.0 k t ∙ ap (λ q. cond q (gives k t (v_int z)) (error k t a_big)) h.1)
 
-  pub quotient_big : (b z : ℤ) → Divided TooBig b z → Leads x m (Fail (record { kind = 1; low = 4; high = 0 }))
+  pub quotient_big : (b z : ℤ) → Divided (Err TooBig) b z → Leads x m (Fail (record { kind = 1; low = 4; high = 0 }))
       (λ k t. divided k t b z)
   quotient_big b z h = fails_big (λ k t. divided k t b z)
       (λ k t. divided_by b z h.0 k t ∙ ap (λ q. cond q (gives k t (v_int z)) (error k t a_big)) h.1)
 
-  pub quotient_zero : (b z : ℤ) → Divided ByZero b z → Leads x m (Fail (record { kind = 1; low = 3; high = 0 }))
+  pub quotient_zero : (b z : ℤ) → Divided (Err ByZero) b z → Leads x m (Fail (record { kind = 1; low = 3; high = 0 }))
       (λ k t. divided k t b z)
   quotient_zero b z h = fails_zero (λ k t. divided k t b z)
       (λ k t. ap (λ q. cond q (error k t a_zero) (number k t z)) h)
@@ -171,18 +171,20 @@ pub numbers_none : {o : Option ℤ} → o ≡ None → Numbers o (Fail (record {
 numbers_none {o} e = subst (λ p. Numbers p (Fail (record { kind = 1; low = 4; high = 0 }))) (sym e)
     (record { to = λ x m z h. number_big x m z h })
 
-pub divides_result : {d : Division} {n : ℤ} {s : Slot} → d ≡ Result n → Stands (Number (to_z w64 (of_z w64 n))) s →
+pub divides_result : {d : Result ℤ DivisionError} {n : ℤ} {s : Slot} → d ≡ Ok n → Stands (Number (to_z w64 (of_z w64 n))) s →
     Divides d (Give s)
 divides_result {d} {n} {s} e st =
     subst (λ p. Divides p (Give s)) (sym e)
     (record { to = λ x m b z h. quotient_leads x m b z h (stands_back h.1 h.2 st) })
 
-pub divides_big : {d : Division} → d ≡ TooBig → Divides d (Fail (record { kind = 1; low = 4; high = 0 }))
-divides_big {d} e = subst (λ p. Divides p (Fail (record { kind = 1; low = 4; high = 0 }))) (sym e)
+pub divides_big : {d : Result ℤ DivisionError} {e : DivisionError} → d ≡ Err e → e ≡ TooBig →
+    Divides d (Fail (record { kind = 1; low = 4; high = 0 }))
+divides_big {d} q h = subst (λ p. Divides p (Fail (record { kind = 1; low = 4; high = 0 }))) (sym (q ∙ ap Err h))
     (record { to = λ x m b z h. quotient_big x m b z h })
 
-pub divides_zero : {d : Division} → d ≡ ByZero → Divides d (Fail (record { kind = 1; low = 3; high = 0 }))
-divides_zero {d} e = subst (λ p. Divides p (Fail (record { kind = 1; low = 3; high = 0 }))) (sym e)
+pub divides_zero : {d : Result ℤ DivisionError} {e : DivisionError} → d ≡ Err e → e ≡ ByZero →
+    Divides d (Fail (record { kind = 1; low = 3; high = 0 }))
+divides_zero {d} q h = subst (λ p. Divides p (Fail (record { kind = 1; low = 3; high = 0 }))) (sym (q ∙ ap Err h))
     (record { to = λ x m b z h. quotient_zero x m b z h })
 
 pub calculates_as : {o : Operator} (p : Operator) {a b : ℤ} {r : Control} → o ≡ p → Calculates p a b r →
@@ -242,11 +244,6 @@ compared_unequal {m} {scratch} {a} {b} {o} {t} {r} e h q =
     subst (λ p. Compared m scratch p a b (Ok r)) (sym e)
     (record { to = λ x u v hu hv d. truth_as x m (not (same_v u v)) q (ap not (h.to x u v hu hv)) })
 
-pub compared_large : {m : Store} {scratch : List ℕ} {a b : Slot} {o : Operator} {e : Refusal} →
-    SameSim m scratch a b (Err e) → Compared m scratch o a b (Err e)
-compared_large {e = Full} h = record { to = λ x u v hu hv d. h.to x u v hu hv }
-compared_large {e = TooLarge} h = record { to = λ x u v hu hv d. h.to x u v hu hv }
-
 -- two operands, the last one first
 module _ {m : Store} {st one two rest : Slot} (p : two ≡ left_of m.words st) (q : rest ≡ right_of m.words st)
     (r : one ≡ left_of m.words rest) where
@@ -259,14 +256,14 @@ module _ {m : Store} {st one two rest : Slot} (p : two ≡ left_of m.words st) (
       (λ z. Holds ns m z u) (sym (r ∙ ap (left_of m.words) q))
       (record { fine = c.fine.1.0; stands = node_left (node_right c.stands) })
 
-  pub operate_first : {scratch : List ℕ} {o : Operator} {w : Answered Control Refusal} → AsNumber one None →
+  pub operate_first : {scratch : List ℕ} {o : Operator} {w : Result Control Refusal} → AsNumber one None →
       Compared m scratch o one two w → OperateSim m scratch o st w
   operate_first n h = record {
     to =
         λ x u v c. h.to x u v (first_held c) (second_held c) (inl (n.is (first_held c)));
   }
 
-  pub operate_second : {scratch : List ℕ} {o : Operator} {w : Answered Control Refusal} → AsNumber two None →
+  pub operate_second : {scratch : List ℕ} {o : Operator} {w : Result Control Refusal} → AsNumber two None →
       Compared m scratch o one two w → OperateSim m scratch o st w
   operate_second n h = record {
     to =
@@ -297,3 +294,10 @@ module _ {m : Store} {st one two rest : Slot} (p : two ≡ left_of m.words st) (
     };
     count = h.count;
   }
+
+pub pair_by : (m m' : Store) (st : Slot) {one two rest : Slot} (r : Result Slot NoRoom) → two ≡ left_of m.words st →
+    rest ≡ right_of m.words st → one ≡ left_of m.words rest →
+    MatchResult r (λ s. Put m m' 16 one two s) (λ e. Lacks m m') →
+    MatchResult r (λ s. Paired m m' st s) (λ e. length m.words < 6 * (m.used + 1))
+pair_by m m' st (Ok s) p q r h = pair_made p q r h
+pair_by m m' st (Err e) p q r h = h.short

@@ -1,16 +1,16 @@
--- An operation does what the meaning says: a tuple is gathered from the last operand on, a call's operands are the environment of
+-- An operation does what the meaning says: a tuple is the operands turned round, a call's operands are the environment of
 -- the function's body, and what concerns others is asked for.
-use Rattle.std.proofs.Common.{◌≡◌, ℕ, ◌+◌, ◌*◌, ◌^◌, ◌<◌, ◌⊎◌, List, [], ◌∷◌, ◌++◌, reverse, length, Some, None, Ok, Err, Option, sym, refl, ap, ◌∙◌, subst, inl, inr, append_assoc, append-nil, arith}
-use mathlib.Core.List.{reverse-cons, reverse-reverse}
+use Rattle.std.proofs.Common.{◌≡◌, ℕ, ◌+◌, ◌^◌, ◌<◌, ◌⊎◌, List, [], ◌∷◌, reverse, length, Some, None, Ok, Err, Option, Result, IsErrAnd, sym, refl, ap, ◌∙◌, subst, inl, inr, arith}
+use mathlib.Core.List.{reverse-reverse}
 use mathlib.Core.Option.{Option as Maybe, some}
-use Rattle.std.proofs.lemmas.List.{length-append, length-reverse}
+use lib.ListN.{length-reverse}
 use Rattle.meaning.specs.Basics.{Name, on_some}
 use Rattle.meaning.specs.Atoms.{a_undef}
 use Rattle.meaning.specs.Syntax.{Function, Operation as Done}
 use Rattle.meaning.specs.Values.{Value, v_tuple, v_pid, tuple}
 use Rattle.meaning.specs.System.{Scope, Control as Meant, enter, Frame, Worker, System, functions_of, function_of}
 use Rattle.meaning.specs.Turns.{enter_function, call_code, spawn_code, call_builtin, bind_params, perform}
-use Rattle.code.specs.Environment.{Chain}
+use Rattle.code.specs.Environment.{FineValues, Chain}
 use Rattle.code.specs.Fine.{FineO}
 use Rattle.code.specs.Function.{Finds, FunctionIs, no_function_is, function_is}
 use Rattle.code.specs.Operation.{
@@ -27,6 +27,7 @@ use Rattle.code.specs.Operation.{
   built_in_is,
 }
 use Rattle.code.specs.Trees.{tree_o}
+use Rattle.code.specs.Turning.{Turned}
 use Rattle.code.specs.declared.operation.Builtin.{Builtin}
 use Rattle.code.specs.declared.operation.Builtin.TheVariants.{Itself, Exit}
 use Rattle.code.specs.declared.operation.Far.{Far}
@@ -43,120 +44,49 @@ use Rattle.code.specs.declared.operation.Operation.TheVariants.{
   Unknown,
 }
 use Rattle.code.specs.declared.operation.Operator.{Operator}
-use Rattle.machine.specs.Frames.{Grows}
 use Rattle.machine.specs.Operators.{OperateSim, Paired}
 use Rattle.machine.specs.Outcomes.{OutcomeIs, goes_on_is, spawns_is, asks_is, calls_is, spawns_far_is, Reached, Runs}
-use Rattle.machine.specs.Performing.{Tupled, Untupled, Enters, no_entry, entry, entered, EnterSim, AskSim}
+use Rattle.machine.specs.Performing.{Enters, no_entry, entry, entered, EnterSim, AskSim, PerformSim}
 use Rattle.machine.specs.State.{World, Sited, FramesAt, give_is, enter_is, fail_is}
-use Rattle.machine.specs.Steps.{Refused}
+use Rattle.machine.specs.Steps.{Refused, Answer}
 use Rattle.machine.specs.declared.state.Control.{Control}
 use Rattle.machine.specs.declared.state.Control.TheVariants.{Give, Fail}
 use Rattle.machine.specs.declared.state.Outcome.{Outcome}
 use Rattle.machine.specs.declared.state.Outcome.TheVariants.{GoesOn, Spawns, Asks, Calls, SpawnsFar}
 use Rattle.machine.specs.declared.state.Refusal.{Refusal}
 use Rattle.machine.specs.declared.state.Refusal.TheVariants.{Full, TooLarge}
-use Rattle.store.specs.Heap.{Store, Den, Kept, Put, Lacks, left_of, right_of}
+use Rattle.store.specs.Heap.{Store, Den, Kept, left_of, right_of}
+use Rattle.store.specs.Tree.{leaf, node}
 use Rattle.store.specs.declared.slot.Slot.{Slot}
-use Rattle.values.specs.Encoding.{index_of, Known, Holds, tree_v}
+use Rattle.values.specs.Encoding.{index_of, Known, Holds, tree_v, tree_vs, Fines}
 use Rattle.values.specs.Shape.{Stands}
+use Rattle.values.specs.Space.{chain}
 use Rattle.values.specs.declared.value.Value.TheVariants.{Worker as Pid}
 use Rattle.store.proofs.Laws.{leaf_stands, node_is, node_left, node_right}
 use Rattle.code.proofs.Operations.{operation_as}
 use Rattle.code.proofs.Functions.{functions_at}
-use Rattle.code.proofs.Instructions.{leaf_has_kind}
+use Rattle.code.proofs.Turning.{fine_reverse}
 use Rattle.code.proofs.Variables.{operands_bind}
-use Rattle.machine.proofs.Standing.{grows_on, chain_kept, frames_kept}
+use Rattle.machine.proofs.Standing.{frames_kept}
 use Rattle.machine.proofs.Stepping.{atom_holds}
 
--- a tuple so far: what is ahead, and what was gathered
-pub record Gathered (ns : List Name) (m₀ m : Store) (rest t : Slot) (vs : List Value) : Type 0 where
-  pub ahead : List Value
-  pub done : List Value
-  pub is : vs ≡ reverse ahead ++ done
-  pub chain : Chain ns m rest ahead
-  pub held : Holds ns m t (v_tuple (tuple done))
-  pub count : m.used ≡ m₀.used + length done
+-- the operands, turned round before the empty tuple, are the tuple
+tuple_is : (ns : List Name) (vs : List Value) → chain ns 17 (leaf 4 0 0) vs ≡ tree_vs ns (tuple vs)
+tuple_is ns [] = refl
+tuple_is ns (v ∷ vs) = ap (node 17 (tree_v ns v)) (tuple_is ns vs)
 
-pub record Gathers (m₀ m : Store) (st rest t : Slot) : Type 0 where
-  pub grows : Grows m₀ m
-  pub to : {ns : List Name} (vs : List Value) → Chain ns m₀ st (reverse vs) → Gathered ns m₀ m rest t vs
+tuple_fine : (ns : List Name) (vs : List Value) → FineValues ns vs → Fines ns (tuple vs)
+tuple_fine ns [] f = tt
+tuple_fine ns (v ∷ vs) f = (f.0, tuple_fine ns vs f.1)
 
-pub gather_starts : {m : Store} {st : Slot} → Grows m m → Gathers m m st st (record { kind = 4; low = 0; high = 0 })
-gather_starts g = record {
-  grows = g;
-  to =
-      λ vs c. record {
-        ahead = reverse vs;
-        done = [];
-        is =
-            sym (append-nil (reverse (reverse vs)) ∙ reverse-reverse vs);
-        chain = c;
-        held =
-            record { fine = tt; stands = leaf_stands 4 0 0 (omega arith) };
-        count = omega arith;
-      };
+turned_tuple : {ns : List Name} {m m' : Store} {st r : Slot} (vs : List Value) →
+    Turned 17 m m' st (record { kind = 4; low = 0; high = 0 }) r → Chain ns m st (reverse vs) →
+    Holds ns m' r (v_tuple (tuple vs))
+turned_tuple {ns} {m'} {r} vs t ch = record {
+  fine = tuple_fine ns vs (subst (FineValues ns) (reverse-reverse vs) (fine_reverse ns (reverse vs) ch.fine));
+  stands = subst (λ z. Den m' r z) (ap (chain ns 17 (leaf 4 0 0)) (reverse-reverse vs) ∙ tuple_is ns vs)
+      (t.stands (omega arith) ch (leaf_stands 4 0 0 (omega arith)));
 }
-
--- the chain has ended where its kind says so
-ahead_none : {ns : List Name} {m : Store} {s : Slot} (us : List Value) → Chain ns m s us → (s.kind ≡ 31 → ⊥) →
-    us ≡ []
-ahead_none [] c k = refl
-ahead_none (u ∷ us) c k = absurd (k (node_is c.stands))
-
-pub gather_on : {m₀ m m' : Store} {st rest t v next t' : Slot} → Gathers m₀ m st rest t → rest.kind ≡ 31 →
-    v ≡ left_of m.words rest → next ≡ right_of m.words rest → Grows m m' → Put m m' 17 v t t' →
-    Gathers m₀ m' st next t'
-gather_on {m₀} {m} {m'} {st} {rest} {t} {v} {next} {t'} gs k e n g p =
-    record { grows = grows_on gs.grows g; to = λ {ns} vs c. step ns vs (gs.to vs c) }
-  where
-    step : (ns : List Name) (vs : List Value) → Gathered ns m₀ m rest t vs → Gathered ns m₀ m' next t' vs
-    step ns vs d = go d.ahead d.is d.chain
-      where
-        go : (us : List Value) → vs ≡ reverse us ++ d.done → Chain ns m rest us → Gathered ns m₀ m' next t' vs
-        go [] q c = absurd (omega (arith, k, leaf_has_kind c.stands))
-        go (u ∷ us) q c = record {
-          ahead = us;
-          done = u ∷ d.done;
-          is = q ∙ (ap (λ z. z ++ d.done) (reverse-cons u us) ∙ append_assoc (reverse us) (u ∷ []) d.done);
-          chain = subst (λ z. Chain ns m' z us) (sym n)
-              (chain_kept p.kept (record { fine = c.fine.1; stands = node_right c.stands }));
-          held = record {
-            fine = (c.fine.0, d.held.fine);
-            stands =
-                p.stands (omega arith) (subst (λ z. Den m z (tree_v ns u)) (sym e) (node_left c.stands))
-                d.held.stands;
-          };
-          count = omega (arith, p.count, d.count);
-        }
-
-pub gathered : {m₀ m : Store} {st rest t : Slot} → Gathers m₀ m st rest t → (rest.kind ≡ 31 → ⊥) → Tupled m₀ m st t
-gathered {m₀} {m} {st} {rest} {t} gs k =
-    record { holds = λ {ns} vs c. holds ns vs (gs.to vs c); count = λ {ns} vs c. count ns vs (gs.to vs c) }
-  where
-    all : (ns : List Name) (vs : List Value) (d : Gathered ns m₀ m rest t vs) → vs ≡ d.done
-    all ns vs d = d.is ∙ ap (λ z. reverse z ++ d.done) (ahead_none d.ahead d.chain k)
-
-    holds : (ns : List Name) (vs : List Value) → Gathered ns m₀ m rest t vs → Holds ns m t (v_tuple (tuple vs))
-    holds ns vs d = subst (λ z. Holds ns m t (v_tuple (tuple z))) (sym (all ns vs d)) d.held
-
-    count : (ns : List Name) (vs : List Value) → Gathered ns m₀ m rest t vs → m.used ≡ m₀.used + length vs
-    count ns vs d = d.count ∙ ap (λ z. m₀.used + length z) (sym (all ns vs d))
-
-pub not_gathered : {m₀ m m' : Store} {st rest t : Slot} → Gathers m₀ m st rest t → rest.kind ≡ 31 → Lacks m m' →
-    Untupled m₀ st
-not_gathered {m₀} {m} {m'} {st} {rest} {t} gs k l = record { short = λ {ns} vs c. short ns vs (gs.to vs c) }
-  where
-    short : (ns : List Name) (vs : List Value) → Gathered ns m₀ m rest t vs →
-        length m₀.words < 6 * (m₀.used + length vs)
-    short ns vs d = go d.ahead d.is d.chain
-      where
-        go : (us : List Value) → vs ≡ reverse us ++ d.done → Chain ns m rest us →
-            length m₀.words < 6 * (m₀.used + length vs)
-        go [] q c = absurd (omega (arith, k, leaf_has_kind c.stands))
-        go (u ∷ us) q c =
-            let z = ap length q ∙ (length-append (reverse (u ∷ us)) d.done ∙ ap
-            (λ n. n + length d.done) (length-reverse (u ∷ us))) in
-            omega (arith, z, d.count, l.short, gs.grows.long)
 
 -- a function's body
 found_in : {code functions : List ℕ} {n i c : ℕ} {r : Option Slot} (x : World) (y : Name) (w : Scope) →
@@ -261,13 +191,13 @@ module _ (x : World) (s : System) (me : Worker) {m : Store} {k : List Frame} (w 
     (fs : FramesAt x m f k) where
   pub perform-tuple : {st : Slot} {m' : Store} {r : Slot} {o : Done} (vs : List Value) →
       OperationIs x.names MakeTuple o (length vs) → Chain x.names m st (reverse vs) → Kept m m' →
-      Tupled m m' st r → Reached x s me m m' (1 + length vs) (GoesOn (Give r) f)
+      Turned 17 m m' st (record { kind = 4; low = 0; high = 0 }) r → Reached x s me m m' (1 + length vs) (GoesOn (Give r) f)
       (perform x.program k s me.pid w o vs)
   perform-tuple vs make_tuple_is ch g t =
       record {
-        outcome = goes_on_is (give_is _ (t.holds vs ch)) (frames_kept g fs);
+        outcome = goes_on_is (give_is _ (turned_tuple vs t ch)) (frames_kept g fs);
         most =
-            omega (arith, t.count vs ch);
+            omega (arith, t.count ch, length-reverse vs);
       }
 
   pub perform-pair : {st : Slot} {m' : Store} {r : Slot} {o : Done} (vs : List Value) →
@@ -353,14 +283,23 @@ module _ (x : World) (s : System) (me : Worker) {m : Store} {k : List Frame} (w 
       (record { outcome = goes_on_is l.stands fs; most = omega arith })
   perform_operate (u ∷ v ∷ v' ∷ vs) (operate_is p e) ch h = absurd (omega (arith, e))
 
-  pub perform_large : {st : Slot} {scratch : List ℕ} {p : Operator} {e : Refusal} {o : Done} (vs : List Value) →
+  large : {st : Slot} {scratch : List ℕ} {p : Operator} {o : Done} (e : Refusal) (vs : List Value) →
       OperationIs x.names (Operate p) o (length vs) → Chain x.names m st (reverse vs) →
       OperateSim m scratch p st (Err e) → Refused x m scratch (1 + length vs) vs e
-  perform_large [] (operate_is p q) ch h = absurd (omega (arith, q))
-  perform_large (u ∷ []) (operate_is p q) ch h = absurd (omega (arith, q))
-  perform_large {e = Full} (u ∷ v ∷ []) (operate_is p q) ch h = absurd (h.to x u v ch)
-  perform_large {e = TooLarge} (u ∷ v ∷ []) (operate_is p q) ch h = h.to x u v ch
-  perform_large (u ∷ v ∷ v' ∷ vs) (operate_is p q) ch h = absurd (omega (arith, q))
+  large e [] (operate_is p q) ch h = absurd (omega (arith, q))
+  large e (u ∷ []) (operate_is p q) ch h = absurd (omega (arith, q))
+  large Full (u ∷ v ∷ []) (operate_is p q) ch h = absurd (h.to x u v ch)
+  large TooLarge (u ∷ v ∷ []) (operate_is p q) ch h = h.to x u v ch
+  large e (u ∷ v ∷ v' ∷ vs) (operate_is p q) ch h = absurd (omega (arith, q))
+
+  pub perform_large : {st : Slot} {scratch : List ℕ} {p : Operator} {e : Refusal} {o : Done}
+      (r : Result Outcome Refusal) → IsErrAnd r (λ z. z ≡ e) → (vs : List Value) →
+      OperationIs x.names (Operate p) o (length vs) → Chain x.names m st (reverse vs) →
+      OperateSim m scratch p st (Err e) →
+      Answer x s me m m scratch (1 + length vs) vs r (perform x.program k s me.pid w o vs)
+  perform_large (Ok r) i vs j ch h = absurd i
+  perform_large {scratch = scratch} (Err r) i vs j ch h =
+      subst (Refused x m scratch (1 + length vs) vs) (sym i) (large _ vs j ch h)
 
   pub perform-ask : {st : Slot} {b : Builtin} {pid : ℕ} {r : Outcome} {o : Done} (vs : List Value) →
       OperationIs x.names (BuiltIn b) o (length vs) → me.pid ≡ pid → Chain x.names m st (reverse vs) →
@@ -369,3 +308,15 @@ module _ (x : World) (s : System) (me : Worker) {m : Store} {k : List Frame} (w 
 
 pub perform_unknown : {ns : List Name} {A : Type 0} {o : Done} {n : ℕ} → OperationIs ns Unknown o n → A
 perform_unknown i = elim i [ ]
+
+-- whatever the operation is that was read
+pub performed : {code functions scratch : List ℕ} {m m' : Store} {pid n : ℕ} {p st f : Slot}
+    {r : Result Outcome Refusal} {i : Operation} → i ≡ operation_at code p →
+    ((x : World) (s : System) (me : Worker) (k : List Frame) (o : Done) (vs : List Value) (w : Scope) →
+    Runs x code functions → me.pid ≡ pid → Sited x.program n w → Chain x.names m st (reverse vs) →
+    FramesAt x m f k → OperationIs x.names i o (length vs) →
+    Answer x s me m m' scratch (1 + length vs) vs r (perform x.program k s me.pid w o vs)) →
+    PerformSim code functions m m' scratch pid p st n f r
+performed h step = record {
+  to = λ x s me k o vs w q pid_is d fine ch sw fs. step x s me k o vs w q pid_is sw ch fs (operation_in q h fine d);
+}

@@ -1,9 +1,9 @@
 -- A value that comes back is one operand more, or the time of a receive.
-use Rattle.std.proofs.Common.{◌≡◌, ℕ, suc, ◌+◌, true, false, List, [], ◌∷◌, ◌++◌, reverse, length, ℤ, pos, negsuc, Some, None, Result, sym, refl, ap, ◌∙◌, subst, arith, w64, to_z, of_z, ltb-true}
+use Rattle.std.proofs.Common.{◌≡◌, ℕ, suc, ◌+◌, true, false, List, [], ◌∷◌, ◌++◌, reverse, length, ℤ, pos, negsuc, Some, None, Result, sym, refl, ap, ◌∙◌, subst, arith, w64, to_z, of_z}
 use mathlib.Core.List.{reverse-append}
-use lib.Signed.{lt_z}
+use lib.Signed.{le_z}
 use Rattle.std.proofs.lemmas.List.{length_push}
-use Rattle.std.proofs.lemmas.Int.{to_z-of_z}
+use Rattle.std.proofs.lemmas.Int.{to_z-of_z, ints}
 use Rattle.meaning.specs.Basics.{Name, opt}
 use Rattle.meaning.specs.Atoms.{a_type}
 use Rattle.meaning.specs.Syntax.{Body, Clauses}
@@ -66,14 +66,14 @@ no_time {t} x {m} s me k cs b w u fs e =
     subst (OutcomeIs x s me m (GoesOn (Fail (record { kind = 1; low = 0; high = 0 })) t)) (sym e)
     (goes_on_is (fail_is (v_atom a_type) (atom_holds x a_type 0 x.atoms.type_at (omega arith))) fs)
 
-below : (z : ℤ) → lt_z z (pos 0) ≡ true → (k : List Frame) (s : System) (cs : Clauses) (b : Body) (w : Scope) →
+below : (z : ℤ) → le_z (pos 0) z ≡ false → (k : List Frame) (s : System) (cs : Clauses) (b : Body) (w : Scope) →
     wait_until k s cs b w z ≡ error k s a_type
-below (pos n) h k s cs b w = absurd (omega (arith, ltb-true n 0 h))
+below (pos n) h k s cs b w = absurd (omega (arith, ints, h))
 below (negsuc n) h k s cs b w = refl
 
-at_least : (z : ℤ) {d : ℕ} → lt_z z (pos 0) ≡ false → d ≡ of_z w64 z → z ≡ pos d
+at_least : (z : ℤ) {d : ℕ} → le_z (pos 0) z ≡ true → d ≡ of_z w64 z → z ≡ pos d
 at_least (pos n) h e = ap pos (sym e)
-at_least (negsuc n) h e = no_clash refl h
+at_least (negsuc n) h e = no_clash h refl
 
 -- a number that a slot holds fits 64 bits
 held_back : {v : Slot} {z : ℤ} {ns : List Name} {m : Store} {u : Value} → AsNumber v (Some z) → Holds ns m v u →
@@ -88,20 +88,20 @@ module _ {v p t : Slot} {a : Site} where
         (ap (λ o. opt o (error k s a_type) (wait_until k s cs b w)) (n.is hv));
   }
 
-  pub time_below : {z : ℤ} → AsNumber v (Some z) → lt_z (to_z w64 (of_z w64 z)) (pos 0) ≡ true →
+  pub time_below : {z : ℤ} → AsNumber v (Some z) → le_z (pos 0) (to_z w64 (of_z w64 z)) ≡ false →
       TimeSim v p a t (GoesOn (Fail (record { kind = 1; low = 0; high = 0 })) t)
   time_below {z} n h = record {
     to = λ x {m} s me k sc cs e b w u hv ce si fs.
         no_time x s me k cs b w u fs (ap (λ o. opt (as_int o) (error k s a_type) (wait_until k s cs b w)) (n.is hv)
-        ∙ below z (subst (λ q. lt_z q (pos 0) ≡ true) (held_back n hv) h) k s cs b w);
+        ∙ below z (subst (λ q. le_z (pos 0) q ≡ false) (held_back n hv) h) k s cs b w);
   }
 
-  pub time_waits : {z : ℤ} {d : ℕ} → AsNumber v (Some z) → lt_z (to_z w64 (of_z w64 z)) (pos 0) ≡ false →
-      d ≡ of_z w64 (to_z w64 (of_z w64 z)) → TimeSim v p a t (WaitsFor p a d t)
+  pub time_waits : {z : ℤ} {d : ℕ} → AsNumber v (Some z) → le_z (pos 0) (to_z w64 (of_z w64 z)) ≡ true →
+      d ≡ of_z w64 (to_z w64 (of_z w64 z)) → TimeSim v p a t (WaitsFor (record { at = p; site = a; below = t }) d)
   time_waits {z} {d} n h q = record {
     to = λ x {m} s me k sc cs e b w u hv ce si fs.
         let back = held_back n hv in
-        let g : z ≡ pos d = at_least z (subst (λ q. lt_z q (pos 0) ≡ false) back h) (q ∙ ap (of_z w64) back) in
-        subst (λ o. OutcomeIs x s me m (WaitsFor p a d t) (resume x.program s me o (until_frame cs b w ∷ k)))
+        let g : z ≡ pos d = at_least z (subst (λ q. le_z (pos 0) q ≡ true) back h) (q ∙ ap (of_z w64) back) in
+        subst (λ o. OutcomeIs x s me m (WaitsFor (record { at = p; site = a; below = t }) d) (resume x.program s me o (until_frame cs b w ∷ k)))
         (sym (n.is hv ∙ ap v_int g)) (waits_for_is sc ce si fs);
   }

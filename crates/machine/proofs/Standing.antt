@@ -1,5 +1,6 @@
 -- What a worker's state stands for stays when cells are made; and a frame is read as the one that was made.
-use Rattle.std.proofs.Common.{◌≡◌, ℕ, suc, ◌+◌, List, length, sym, refl, ◌∙◌, subst, arith}
+use Rattle.code.proofs.Chains.{chain_kept}
+use Rattle.std.proofs.Common.{◌≡◌, ℕ, suc, ◌+◌, ◌*◌, ◌<◌, List, length, Ok, Err, Result, MatchResult, sym, refl, ◌∙◌, subst, arith}
 use Rattle.meaning.specs.Basics.{Name}
 use Rattle.meaning.specs.Syntax.{Pattern, Operation, Expr, case, receive_until, Exprs, and_e, Body, bind, Clauses}
 use Rattle.meaning.specs.Values.{Value}
@@ -7,19 +8,7 @@ use Rattle.meaning.specs.System.{Scope, Frame as Waiting}
 use Rattle.meaning.specs.Grammar.{count}
 use Rattle.code.specs.Code.{CodeE, CodeEs, CodeB}
 use Rattle.code.specs.Environment.{Chain}
-use Rattle.machine.specs.Frames.{
-  Grows,
-  Framing,
-  frame_of,
-  frame_at,
-  FrameIs,
-  operands_is,
-  bind_is,
-  case_is,
-  until_is,
-  catch_is,
-  bottom_is,
-}
+use Rattle.machine.specs.Frames.{Framing, frame_of, frame_at, FrameIs, operands_is, bind_is, case_is, until_is, catch_is, bottom_is}
 use Rattle.machine.specs.State.{
   World,
   Sited,
@@ -36,29 +25,13 @@ use Rattle.machine.specs.State.{
 }
 use Rattle.machine.specs.declared.frames.Frame.{Frame}
 use Rattle.machine.specs.declared.state.Site.{Site}
-use Rattle.store.specs.Heap.{Store, Den, Kept, Put, Lacks, left_of}
+use Rattle.store.specs.Heap.{Store, Den, Kept, Put, Lacks, left_of, Grows}
 use Rattle.store.specs.Tree.{Tree, leaf, node}
+use Rattle.store.specs.declared.slot.Full.{Full}
 use Rattle.store.specs.declared.slot.Slot.{Slot}
-use Rattle.store.proofs.Laws.{leaf_stands, node_is, node_left, node_right, keeps, kept_refl, kept_trans}
+use Rattle.store.proofs.Laws.{leaf_stands, node_is, node_left, node_right, keeps, kept_trans}
 use Rattle.store.proofs.Words.{slot_parts}
 use Rattle.code.proofs.Instructions.{leaf_has_kind, leaf_has_low, leaf_has_high}
-
-pub grows_none : {m : Store} → Grows m m
-grows_none = record { long = refl; kept = kept_refl }
-
-pub grows_on : {m₀ m₁ m₂ : Store} → Grows m₀ m₁ → Grows m₁ m₂ → Grows m₀ m₂
-grows_on g h = record { long = h.long ∙ g.long; kept = kept_trans g.kept h.kept }
-
-pub grows_put : {m m' : Store} {k : ℕ} {a b r : Slot} → length m'.words ≡ length m.words → Put m m' k a b r →
-    Grows m m'
-grows_put l p = record { long = l; kept = p.kept }
-
-pub grows_lacks : {m m' : Store} → Lacks m m' → Grows m m'
-grows_lacks {m} {m'} l = subst (λ z. Grows m z) (sym l.same) grows_none
-
-pub chain_kept : {ns : List Name} {m m' : Store} {s : Slot} {vs : List Value} → Kept m m' → Chain ns m s vs →
-    Chain ns m' s vs
-chain_kept g c = record { fine = c.fine; stands = keeps g c.stands }
 
 pub site_kept : {x : World} {m m' : Store} {sc : List Name} {a : Site} {w : Scope} → Kept m m' → SiteIs x m sc a w →
     SiteIs x m' sc a w
@@ -86,6 +59,13 @@ framing p q = record {
   count =
       omega (arith, p.count, q.count);
 }
+
+pub framed : {m m₁ : Store} (m₂ : Store) (kind : ℕ) {p n : ℕ} {values part : Slot} (below : Slot)
+    (r : Result Slot Full) → length m₁.words ≡ length m.words → Put m m₁ 37 (record { kind = 5; low = p; high = n }) values part →
+    MatchResult r (λ s. Put m₁ m₂ kind part below s) (λ e. Lacks m₁ m₂) →
+    MatchResult r (λ s. Framing m m₂ kind p n values below s) (λ e. length m.words < 6 * (m.used + 2))
+framed m₂ kind below (Ok s) l p q = framing p q
+framed m₂ kind below (Err e) l p q = omega (arith, l, p.count, q.short)
 
 -- the node of the code that a frame's place says
 node_placed : (x : World) {s : Slot} {k : ℕ} {a b : Tree} → Den x.code s (node k a b) → s ≡ placed k s.low

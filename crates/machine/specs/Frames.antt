@@ -29,17 +29,12 @@ use Rattle.machine.specs.State.{
   until_frame_kind,
   catch_frame_kind,
 }
+use Rattle.machine.specs.declared.frames.Continuation.{Continuation}
 use Rattle.machine.specs.declared.frames.Frame.{Frame}
 use Rattle.machine.specs.declared.frames.Frame.TheVariants.{Operands, Bind, Case, Until, Catch, Bottom}
-use Rattle.machine.specs.declared.state.Site.{Site}
 use Rattle.store.specs.Heap.{Store, Den, Kept, left_of, right_of}
 use Rattle.store.specs.Tree.{Tree, leaf, node}
 use Rattle.store.specs.declared.slot.Slot.{Slot}
-
--- memory is as long as it was, and the cells in use stay as they are
-pub record Grows (m m' : Store) : Type 0 where
-  pub long : length m'.words ≡ length m.words
-  pub kept : Kept m m'
 
 -- r is a new frame of that kind, of two cells
 pub record Framing (m m' : Store) (kind p n : ℕ) (values below r : Slot) : Type 0 where
@@ -47,20 +42,22 @@ pub record Framing (m m' : Store) (kind p n : ℕ) (values below r : Slot) : Typ
       Den m' r (node kind (node part_kind (leaf place_kind p n) s) t)
   pub count : m'.used ≡ m.used + 2
 
-abbrev pub placed_at : ℕ → Slot → Slot
-placed_at kind s = placed kind s.low
-
-abbrev pub site_at : Slot → Slot → Site
-site_at place env = record { env = env; section = place.high }
+-- a frame goes on with the node of that kind at a place, in the section that the place says
+abbrev pub continuation_at : ℕ → Slot → Slot → Slot → Continuation
+continuation_at kind place env below = record {
+  at = placed kind place.low;
+  site = record { env = env; section = place.high };
+  below = below;
+}
 
 -- the frame of kind k, with the slots of its parts
 abbrev pub frame_by : List ℕ → ℕ → Slot → Slot → Slot → Frame
 frame_by words k place values below =
     cond (k == operands_frame_kind)
-    (Operands (placed_at operand_kind place) (site_at place (left_of words values)) (right_of words values) below)
-    (cond (k == bind_frame_kind) (Bind (placed_at statement_kind place) (site_at place values) below)
-    (cond (k == case_frame_kind) (Case (placed_at case_kind place) (site_at place values) below)
-    (cond (k == until_frame_kind) (Until (placed_at until_kind place) (site_at place values) below)
+    (Operands (continuation_at operand_kind place (left_of words values) below) (right_of words values))
+    (cond (k == bind_frame_kind) (Bind (continuation_at statement_kind place values below))
+    (cond (k == case_frame_kind) (Case (continuation_at case_kind place values below))
+    (cond (k == until_frame_kind) (Until (continuation_at until_kind place values below))
     (cond (k == catch_frame_kind) (Catch below) Bottom))))
 
 abbrev pub frame_of : List ℕ → Slot → ℕ → Frame
@@ -72,21 +69,19 @@ frame_at words s = frame_of words s s.kind
 
 -- a frame as it is read is the innermost of these
 pub data FrameIs (x : World) (m : Store) : Frame → List Waiting → Type 0 where
-  operands_is : {p u t : Slot} {a : Site} (sc : List Name) (vs : List Value) {o : Operation} {e : Expr} {es : Exprs}
+  operands_is : {n : Continuation} {u : Slot} (sc : List Name) (vs : List Value) {o : Operation} {e : Expr} {es : Exprs}
       {w : Scope} {k : List Waiting} →
-      CodeEs x.names sc x.code p o (length vs + suc (count es)) (and_e e es) → SiteIs x m sc a w →
-      Chain x.names m u (reverse vs) → FramesAt x m t k →
-      FrameIs x m (Operands p a u t) (operands_frame o vs es w ∷ k)
-  bind_is : {p t : Slot} {a : Site} (sc : List Name) {q : Pattern} {e : Expr} {b : Body} {w : Scope}
-      {k : List Waiting} →
-      CodeB x.names sc x.code p (bind q e b) → SiteIs x m sc a w → FramesAt x m t k →
-      FrameIs x m (Bind p a t) (bind_frame q b w ∷ k)
-  case_is : {p t : Slot} {a : Site} (sc : List Name) {e : Expr} {cs : Clauses} {w : Scope} {k : List Waiting} →
-      CodeE x.names sc x.code p (case e cs) → SiteIs x m sc a w → FramesAt x m t k →
-      FrameIs x m (Case p a t) (case_frame cs w ∷ k)
-  until_is : {p t : Slot} {a : Site} (sc : List Name) {cs : Clauses} {e : Expr} {b : Body} {w : Scope}
-      {k : List Waiting} →
-      CodeE x.names sc x.code p (receive_until cs e b) → SiteIs x m sc a w → FramesAt x m t k →
-      FrameIs x m (Until p a t) (until_frame cs b w ∷ k)
+      CodeEs x.names sc x.code n.at o (length vs + suc (count es)) (and_e e es) → SiteIs x m sc n.site w →
+      Chain x.names m u (reverse vs) → FramesAt x m n.below k →
+      FrameIs x m (Operands n u) (operands_frame o vs es w ∷ k)
+  bind_is : {n : Continuation} (sc : List Name) {q : Pattern} {e : Expr} {b : Body} {w : Scope} {k : List Waiting} →
+      CodeB x.names sc x.code n.at (bind q e b) → SiteIs x m sc n.site w → FramesAt x m n.below k →
+      FrameIs x m (Bind n) (bind_frame q b w ∷ k)
+  case_is : {n : Continuation} (sc : List Name) {e : Expr} {cs : Clauses} {w : Scope} {k : List Waiting} →
+      CodeE x.names sc x.code n.at (case e cs) → SiteIs x m sc n.site w → FramesAt x m n.below k →
+      FrameIs x m (Case n) (case_frame cs w ∷ k)
+  until_is : {n : Continuation} (sc : List Name) {cs : Clauses} {e : Expr} {b : Body} {w : Scope} {k : List Waiting} →
+      CodeE x.names sc x.code n.at (receive_until cs e b) → SiteIs x m sc n.site w → FramesAt x m n.below k →
+      FrameIs x m (Until n) (until_frame cs b w ∷ k)
   catch_is : {t : Slot} {k : List Waiting} → FramesAt x m t k → FrameIs x m (Catch t) (catch_frame ∷ k)
   bottom_is : FrameIs x m Bottom []

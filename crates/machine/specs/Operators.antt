@@ -14,13 +14,11 @@ use Rattle.machine.specs.declared.state.Refusal.{Refusal}
 use Rattle.machine.specs.declared.state.Refusal.TheVariants.{Full, TooLarge}
 use Rattle.numbers.specs.Divided.{Divided}
 use Rattle.numbers.specs.Exact.{Exact}
-use Rattle.numbers.specs.declared.division.Division.{Division}
+use Rattle.numbers.specs.declared.division.DivisionError.{DivisionError}
 use Rattle.store.specs.Heap.{Store}
 use Rattle.store.specs.Tree.{cells}
 use Rattle.store.specs.declared.slot.Slot.{Slot}
 use Rattle.values.specs.Encoding.{tree_v, Holds}
-use Rattle.values.specs.declared.value.Value.{Value as Part}
-use Rattle.values.specs.declared.value.Value.TheVariants.{Number, Atom, Worker, Nil, EmptyTuple, Tuple, Pair, Unknown}
 
 -- the worker goes on with r, whatever its frames and the system are
 pub record Leads (x : World) (m : Store) (r : Control) (f : List Frame → System → Means) : Type 0 where
@@ -32,7 +30,7 @@ pub record Leads (x : World) (m : Store) (r : Control) (f : List Frame → Syste
 pub record Numbers (o : Option ℤ) (r : Control) : Type 0 where
   pub to : (x : World) (m : Store) (z : ℤ) → Exact o z → Leads x m r (λ k s. number k s z)
 
-pub record Divides (d : Division) (r : Control) : Type 0 where
+pub record Divides (d : Result ℤ DivisionError) (r : Control) : Type 0 where
   pub to : (x : World) (m : Store) (b z : ℤ) → Divided d b z → Leads x m r (λ k s. divided k s b z)
 
 pub record Truly (b : Bool) (r : Control) : Type 0 where
@@ -40,16 +38,6 @@ pub record Truly (b : Bool) (r : Control) : Type 0 where
 
 pub record Calculates (o : Operator) (a b : ℤ) (r : Control) : Type 0 where
   pub to : (x : World) (m : Store) → Leads x m r (λ k s. operate_on k s (operator_of o) (v_int a) (v_int b))
-
-abbrev pub whole_number : Part → Option ℤ
-whole_number (Number n) = Some n
-whole_number (Atom a) = None
-whole_number (Worker w) = None
-whole_number Nil = None
-whole_number EmptyTuple = None
-whole_number (Tuple s) = None
-whole_number (Pair s) = None
-whole_number (Unknown s) = None
 
 -- v is the number, or none
 abbrev pub IsNumber : Option ℤ → Value → Type 0

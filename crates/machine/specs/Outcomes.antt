@@ -24,7 +24,7 @@ use Rattle.machine.specs.State.{World, SiteIs, FramesAt, ControlIs}
 use Rattle.machine.specs.declared.state.Control.{Control}
 use Rattle.machine.specs.declared.state.Outcome.{Outcome}
 use Rattle.machine.specs.declared.state.Outcome.TheVariants.{GoesOn, Ended, Spawns, Asks, Calls, SpawnsFar, WaitsFor}
-use Rattle.machine.specs.declared.state.Site.{Site}
+use Rattle.machine.specs.declared.frames.Continuation.{Continuation}
 use Rattle.store.specs.Heap.{Store}
 use Rattle.store.specs.declared.slot.Slot.{Slot}
 use Rattle.values.specs.Encoding.{Holds}
@@ -44,9 +44,9 @@ pub data OutcomeIs (x : World) (s : System) (me : Worker) (m : Store) : Outcome 
   spawns_far_is : {h : Far} {a f : Slot} (vs : List Value) {n y : Name} {k : List Frame} →
       FarIs x.names h n y (length vs) → Chain x.names m a (reverse vs) → FramesAt x m f k →
       OutcomeIs x s me m (SpawnsFar h a f) (spawn_code k s (enter_current x.program s n y vs))
-  waits_for_is : {p : Slot} {a : Site} {t : ℕ} {f : Slot} (sc : List Name) {cs : Clauses} {e : Expr} {b : Body}
-      {w : Scope} {k : List Frame} → CodeE x.names sc x.code p (receive_until cs e b) → SiteIs x m sc a w →
-      FramesAt x m f k → OutcomeIs x s me m (WaitsFor p a t f) (goes_on (wait cs (until (s.clock + t) b) w) k s)
+  waits_for_is : {n : Continuation} {t : ℕ} (sc : List Name) {cs : Clauses} {e : Expr} {b : Body} {w : Scope}
+      {k : List Frame} → CodeE x.names sc x.code n.at (receive_until cs e b) → SiteIs x m sc n.site w →
+      FramesAt x m n.below k → OutcomeIs x s me m (WaitsFor n t) (goes_on (wait cs (until (s.clock + t) b) w) k s)
 
 -- a turn led to r, which stands for o, with at most n cells more
 pub record Reached (x : World) (s : System) (me : Worker) (m m' : Store) (n : ℕ) (r : Outcome) (o : Means) :

@@ -1,9 +1,9 @@
 -- What an operation on operands leads to.
-use Rattle.std.specs.Prelude.{◌≡◌, ℕ, ◌+◌, ◌*◌, ◌<◌, List, reverse, length, Some, None, Option, Result}
+use Rattle.std.specs.Prelude.{◌≡◌, ℕ, ◌+◌, List, reverse, length, Some, None, Option, Result}
 use Rattle.std.proofs.Math.Option.{Option as Maybe, some, none}
 use Rattle.meaning.specs.Basics.{Name}
 use Rattle.meaning.specs.Syntax.{Operation}
-use Rattle.meaning.specs.Values.{Value, v_tuple, tuple}
+use Rattle.meaning.specs.Values.{Value}
 use Rattle.meaning.specs.System.{Scope, Control as Meant, Frame, Worker, System}
 use Rattle.meaning.specs.Turns.{enter_function, call_builtin, perform}
 use Rattle.code.specs.Environment.{Chain}
@@ -20,16 +20,7 @@ use Rattle.machine.specs.declared.state.Outcome.{Outcome}
 use Rattle.machine.specs.declared.state.Refusal.{Refusal}
 use Rattle.store.specs.Heap.{Store, Den}
 use Rattle.store.specs.declared.slot.Slot.{Slot}
-use Rattle.values.specs.Encoding.{index_of, Known, Holds}
-
--- r is the tuple of the operands, of a cell for each; and there was no room for it
-pub record Tupled (m m' : Store) (st r : Slot) : Type 0 where
-  pub holds : {ns : List Name} (vs : List Value) → Chain ns m st (reverse vs) → Holds ns m' r (v_tuple (tuple vs))
-  pub count : {ns : List Name} (vs : List Value) → Chain ns m st (reverse vs) → m'.used ≡ m.used + length vs
-
-pub record Untupled (m : Store) (st : Slot) : Type 0 where
-  pub short : {ns : List Name} (vs : List Value) → Chain ns m st (reverse vs) →
-      length m.words < 6 * (m.used + length vs)
+use Rattle.values.specs.Encoding.{index_of, Known}
 
 -- the control with which a function's body begins, if there is one
 pub data Enters (x : World) (m : Store) : Option Control → Maybe Meant → Type 0 where

@@ -1,5 +1,5 @@
 -- A worker that waits: it takes a message, goes on late, or waits on.
-use Rattle.std.specs.Prelude.{◌≡◌, ℕ, ◌+◌, ◌*◌, ◌<◌, ◌≤◌, Bool, false, List, length, Ok, Err, Result, nat_le}
+use Rattle.std.specs.Prelude.{◌≡◌, ℕ, ◌+◌, ◌*◌, ◌<◌, ◌≤◌, Bool, false, List, reverse, length, Ok, Err, Result, nat_le}
 use Rattle.std.proofs.Math.Option.{some, none}
 use Rattle.meaning.specs.Syntax.{Clauses}
 use Rattle.meaning.specs.Values.{Value}
@@ -18,7 +18,8 @@ use Rattle.meaning.specs.System.{
 use Rattle.meaning.specs.Turns.{goes_on, look_at_mail}
 use Rattle.machine.specs.State.{World, ControlIs}
 use Rattle.machine.specs.declared.receiving.Waited.{Waited}
-use Rattle.machine.specs.declared.receiving.Waited.TheVariants.{Took, Late, Waits}
+use Rattle.machine.specs.declared.receiving.Next.{Next}
+use Rattle.machine.specs.declared.receiving.Next.TheVariants.{Took, Late, Waits}
 use Rattle.machine.specs.declared.state.Control.{Control}
 use Rattle.machine.specs.declared.state.Control.TheVariants.{Wait}
 use Rattle.machine.specs.declared.state.Site.{Site}
@@ -52,22 +53,23 @@ pub record GoesLate (x : World) (s : System) (me : Worker) (cs : Clauses) (u : U
   pub stands : ControlIs x m' c control
   pub mail : Mail x.names m' b me.mail
 
--- there is no turn for it, and its clauses match no message that it has
+-- there is no turn for it: its clauses match no message that it has, and all of them are seen
 pub record WaitsOn (x : World) (s : System) (me : Worker) (cs : Clauses) (u : Until) (w : Scope) (m' : Store)
     (b : Mailbox) : Type 0 where
   pub is : look_at_mail s me cs u w ≡ none
   pub mail : Mail x.names m' b me.mail
+  pub all_seen : mail.seen ≡ reverse me.mail
   pub passed : Passed cs w.vars mail.seen
 
-abbrev pub WaitedIs : World → System → Worker → Clauses → Until → Scope → Store → Waited → Type 0
-WaitedIs x s me cs u w m' (Took c b) = TakesOne x s me cs u w m' c b
-WaitedIs x s me cs u w m' (Late c b) = GoesLate x s me cs u w m' c b
-WaitedIs x s me cs u w m' (Waits b) = WaitsOn x s me cs u w m' b
+abbrev pub NextIs : World → System → Worker → Clauses → Until → Scope → Store → Mailbox → Next → Type 0
+NextIs x s me cs u w m' b (Took c) = TakesOne x s me cs u w m' c b
+NextIs x s me cs u w m' b (Late c) = GoesLate x s me cs u w m' c b
+NextIs x s me cs u w m' b Waits = WaitsOn x s me cs u w m' b
 
 -- with at most n cells more; or there were not so many left
 abbrev pub WaitEnds : World → System → Worker → Clauses → Until → Scope → Store → Store → ℕ → Result Waited Full →
     Type 0
-WaitEnds x s me cs u w m m' n (Ok r) = WaitedIs x s me cs u w m' r × (m'.used ≤ m.used + n)
+WaitEnds x s me cs u w m m' n (Ok r) = NextIs x s me cs u w m' r.mailbox r.next × (m'.used ≤ m.used + n)
 WaitEnds x s me cs u w m m' n (Err e) = length m.words < 6 * (m.used + n)
 
 -- for every worker that waits with this control and this mailbox, of whose messages the clauses match none that was seen

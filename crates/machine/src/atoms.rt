@@ -1,70 +1,37 @@
-//! The atoms that the machine makes itself: they have the first numbers of the table of names.
+//! The atoms that the machine makes itself: they have the first numbers of the table of names. They are numbers, since the
+//! table, with its list of names, is a crate that this one does not stand on.
 
 use store::Slot;
 use values::ATOM;
 
-pub const TYPE: Slot = Slot {
-    kind: ATOM,
-    low: 0,
-    high: 0,
-};
+macro_rules! atom {
+    ($number:literal) => {
+        Slot {
+            kind: ATOM,
+            low: $number,
+            high: 0,
+        }
+    };
+}
 
-pub const MATCH: Slot = Slot {
-    kind: ATOM,
-    low: 1,
-    high: 0,
-};
+pub const TYPE: Slot = atom!(0);
 
-pub const CLAUSE: Slot = Slot {
-    kind: ATOM,
-    low: 2,
-    high: 0,
-};
+pub const MATCH: Slot = atom!(1);
 
-pub const ZERO: Slot = Slot {
-    kind: ATOM,
-    low: 3,
-    high: 0,
-};
+pub const CLAUSE: Slot = atom!(2);
 
-pub const BIG: Slot = Slot {
-    kind: ATOM,
-    low: 4,
-    high: 0,
-};
+pub const ZERO: Slot = atom!(3);
 
-pub const UNDEF: Slot = Slot {
-    kind: ATOM,
-    low: 5,
-    high: 0,
-};
+pub const BIG: Slot = atom!(4);
 
-pub const NORMAL: Slot = Slot {
-    kind: ATOM,
-    low: 6,
-    high: 0,
-};
+pub const UNDEF: Slot = atom!(5);
 
-pub const OK: Slot = Slot {
-    kind: ATOM,
-    low: 9,
-    high: 0,
-};
+pub const NORMAL: Slot = atom!(6);
 
-pub const ERROR: Slot = Slot {
-    kind: ATOM,
-    low: 10,
-    high: 0,
-};
+pub const OK: Slot = atom!(9);
 
-pub const TRUE: Slot = Slot {
-    kind: ATOM,
-    low: 13,
-    high: 0,
-};
+pub const ERROR: Slot = atom!(10);
 
-pub const FALSE: Slot = Slot {
-    kind: ATOM,
-    low: 14,
-    high: 0,
-};
+pub const TRUE: Slot = atom!(13);
+
+pub const FALSE: Slot = atom!(14);

@@ -1,40 +1,29 @@
 //! A value comes back to `p = e` or to a case: a pattern decides.
 
-ghost use Rattle.store.specs.Heap.{stored};
+ghost use Rattle.store.specs.Heap.{stored, Grows};
 ghost use Rattle.machine.specs.Binding.{BindSim, CaseSim};
-ghost use Rattle.machine.specs.Frames.{Grows};
 
 use crate::atoms::{CLAUSE, MATCH};
+use crate::frames::Continuation;
 use crate::state::{Control, Outcome, Refusal, Site};
-use matching::{choose, fits};
-use store::{Full, Heap, Slot, left, right};
+use matching::{Clauses, fits};
+use store::{Cells, Heap, Slot};
 
 /// The value of a statement is there: its pattern is matched, and the rest of the body begins with what it binds.
 pub fn bind(
     code: &[u32],
     heap: &mut Heap<'_>,
     value: Slot,
-    statement: Slot,
-    site: Site,
-    below: Slot,
+    frame: Continuation,
 ) -> Result<Outcome, Refusal>
     ensures grows { Grows (stored heap.old) (stored heap.new) }
-    ensures sim { BindSim code.now (stored heap.old) (stored heap.new) value statement site below result }
+    ensures sim { BindSim code.now (stored heap.old) (stored heap.new) value frame.at frame.site frame.below result }
 {
-    let pattern = left(code, statement);
-    let rest = right(code, right(code, statement));
-    let found = match fits(code, heap, pattern, value, site.env) {
-        Ok(found) => found,
-        Err(Full) => return Err(Refusal::Full),
-    };
-    match found {
-        Some(env) => {
-            let site = Site {
-                env,
-                section: site.section,
-            };
-            Ok(Outcome::GoesOn(Control::Enter(rest, site), below))
-        }
+    let Continuation { at, site, below } = frame;
+    let pattern = code.left(at);
+    let rest = code.right(code.right(at));
+    match fits(code, heap, pattern, value, site.env)? {
+        Some(env) => Ok(Outcome::GoesOn(Control::Enter(rest, Site { env, ..site }), below)),
         None => Ok(Outcome::GoesOn(Control::Fail(MATCH), below)),
     }
 }
@@ -44,23 +33,22 @@ pub fn choose_clause(
     code: &[u32],
     heap: &mut Heap<'_>,
     value: Slot,
-    case: Slot,
-    site: Site,
-    below: Slot,
+    frame: Continuation,
 ) -> Result<Outcome, Refusal>
     ensures grows { Grows (stored heap.old) (stored heap.new) }
-    ensures sim { CaseSim code.now (stored heap.old) (stored heap.new) value case site below result }
+    ensures sim { CaseSim code.now (stored heap.old) (stored heap.new) value frame.at frame.site frame.below result }
 {
-    let clauses = right(code, case);
-    let found = match choose(code, heap, clauses, value, site.env) {
-        Ok(found) => found,
-        Err(Full) => return Err(Refusal::Full),
+    let Continuation { at, site, below } = frame;
+    let clauses = Clauses {
+        code,
+        first: code.right(at),
+        env: site.env,
     };
-    match found {
+    match clauses.choose(heap, value)? {
         Some(chosen) => {
             let site = Site {
                 env: chosen.env,
-                section: site.section,
+                ..site
             };
             Ok(Outcome::GoesOn(Control::Enter(chosen.body, site), below))
         }

@@ -1,14 +1,14 @@
 //! Frames in cells: what waits for a value.
 
 ghost use Rattle.std.specs.Prelude.{◌≡◌, ◌+◌, ◌*◌, ◌<◌, length, MatchResult};
-ghost use Rattle.store.specs.Heap.{stored};
-ghost use Rattle.machine.specs.Frames.{frame_at, placed_at, Framing, Grows};
+ghost use Rattle.store.specs.Heap.{stored, Grows};
+ghost use Rattle.machine.specs.Frames.{continuation_at, frame_at, Framing};
 
 use crate::state::Site;
 use code::{CASE, OPERAND, STATEMENT, UNTIL};
-use store::{Full, Heap, Slot};
+use store::{Cells, Full, Heap, Slot};
 
-/// The kinds of frames' nodes and of their parts.
+/// The kinds of frames' nodes and of their parts: numbers, since any word may stand in a slot that is read.
 pub const PLACE: u32 = 5;
 
 pub const OPERANDS_FRAME: u32 = 32;
@@ -23,14 +23,21 @@ pub const CATCH_FRAME: u32 = 36;
 
 pub const PART: u32 = 37;
 
-/// The innermost frame: the node of the code that it goes on with, its site, and the frames below; that of operands has
-/// those so far, the last one first, before the frames below.
-#[derive(Clone, Copy)]
+/// How a frame goes on: with a node of the code, at its site, and with the frames below.
+#[derive(Clone, Copy, Debug, PartialEq, Eq)]
+pub struct Continuation {
+    pub at: Slot,
+    pub site: Site,
+    pub below: Slot,
+}
+
+/// The innermost frame; that of operands has those so far, the last one first.
+#[derive(Clone, Copy, Debug, PartialEq, Eq)]
 pub enum Frame {
-    Operands(Slot, Site, Slot, Slot),
-    Bind(Slot, Site, Slot),
-    Case(Slot, Site, Slot),
-    Until(Slot, Site, Slot),
+    Operands(Continuation, Slot),
+    Bind(Continuation),
+    Case(Continuation),
+    Until(Continuation),
     Catch(Slot),
     Bottom,
 }
@@ -45,77 +52,52 @@ pub fn read_frame(heap: &Heap<'_>, frames: Slot) -> Frame
     let values = heap.right(part);
     match frames.kind {
         OPERANDS_FRAME => {
-            let site = Site {
-                env: heap.left(values),
-                section: place.high,
-            };
-            Frame::Operands(placed(OPERAND, place), site, heap.right(values), below)
+            let env = heap.left(values);
+            Frame::Operands(goes_on(OPERAND, place, env, below), heap.right(values))
         }
-        BIND_FRAME => Frame::Bind(
-            placed(STATEMENT, place),
-            Site {
-                env: values,
-                section: place.high,
-            },
-            below,
-        ),
-        CASE_FRAME => Frame::Case(
-            placed(CASE, place),
-            Site {
-                env: values,
-                section: place.high,
-            },
-            below,
-        ),
-        UNTIL_FRAME => Frame::Until(
-            placed(UNTIL, place),
-            Site {
-                env: values,
-                section: place.high,
-            },
-            below,
-        ),
+        BIND_FRAME => Frame::Bind(goes_on(STATEMENT, place, values, below)),
+        CASE_FRAME => Frame::Case(goes_on(CASE, place, values, below)),
+        UNTIL_FRAME => Frame::Until(goes_on(UNTIL, place, values, below)),
         CATCH_FRAME => Frame::Catch(below),
         _ => Frame::Bottom,
     }
 }
 
-/// A frame of that kind that goes on with the node `at` of the code.
+/// How a frame goes on that has this place, which is that of a node of that kind.
+fn goes_on(kind: u32, place: Slot, env: Slot, below: Slot) -> Continuation
+    ensures { result ≡ continuation_at kind place env below }
+{
+    let at = Slot {
+        kind,
+        low: place.low,
+        high: 0,
+    };
+    let site = Site {
+        env,
+        section: place.high,
+    };
+    Continuation { at, site, below }
+}
+
+/// A frame of that kind that goes on with the node `at` of the code, at this site; a frame of operands has in place of the
+/// environment a part with it and with the operands. No `Continuation` is asked for: it would be written out at each call.
 pub fn make_frame(
     heap: &mut Heap<'_>,
     kind: u32,
     at: Slot,
-    section: u32,
-    values: Slot,
+    site: Site,
     below: Slot,
 ) -> Result<Slot, Full>
     ensures grows { Grows (stored heap.old) (stored heap.new) }
     ensures cases { MatchResult result
-        (λ s. Framing (stored heap.old) (stored heap.new) kind at.low section values below s)
+        (λ s. Framing (stored heap.old) (stored heap.new) kind at.low site.section site.env below s)
         (λ _. length heap.old.words.now < 6 * (heap.old.used + 2)) }
 {
     let place = Slot {
         kind: PLACE,
         low: at.low,
-        high: section,
+        high: site.section,
     };
-    let part = match heap.put(PART, place, values) {
-        Ok(slot) => slot,
-        Err(full) => return Err(full),
-    };
-    match heap.put(kind, part, below) {
-        Ok(slot) => Ok(slot),
-        Err(full) => Err(full),
-    }
-}
-
-/// The slot of the code's node of that kind at a frame's place.
-fn placed(kind: u32, place: Slot) -> Slot
-    ensures { result ≡ placed_at kind place }
-{
-    Slot {
-        kind,
-        low: place.low,
-        high: 0,
-    }
+    let part = heap.put(PART, place, site.env)?;
+    heap.put(kind, part, below)
 }

@@ -15,12 +15,9 @@ mod turning;
 mod unwinding;
 
 pub use binding::{bind, choose_clause};
-pub use evaluation::{begin_body, evaluate, operands};
-pub use frames::{Frame, make_frame, read_frame};
+pub use evaluation::begin_body;
+pub use frames::{Continuation, Frame, make_frame, read_frame};
 pub use operators::{as_number, operate};
-pub use performing::perform;
-pub use receiving::{Waited, take_message};
-pub use resuming::resume;
-pub use state::{Control, Outcome, Refusal, Site};
-pub use turning::turn;
+pub use receiving::{Next, Waited, take_message};
+pub use state::{Control, Outcome, Refusal, Site, Worker};
 pub use unwinding::{tag, unwind};

@@ -2,13 +2,13 @@
 
 ghost use Rattle.std.specs.Prelude.{◌≡◌};
 ghost use Rattle.store.specs.Heap.{stored};
-ghost use Rattle.machine.specs.Operators.{AsNumber, Calculates, Compared, Divides, Numbers, OperateSim, SameSim, Truly, whole_number};
+ghost use Rattle.machine.specs.Operators.{AsNumber, Calculates, Compared, Divides, Numbers, OperateSim, SameSim, Truly};
 
 use crate::atoms::{BIG, FALSE, TRUE, TYPE, ZERO};
 use crate::state::{Control, Refusal};
 use code::Operator;
-use numbers::{Division, add, at_most, divide, equal, less, modulo, multiply, subtract};
-use store::{Full, Heap, Slot};
+use numbers::{DivisionError, add, at_most, divide, equal, less, modulo, multiply, subtract};
+use store::{Cells, Heap, Slot};
 use values::{Value, same_value};
 
 /// What an operator leads to on its operands, of which the last one comes first.
@@ -22,26 +22,17 @@ pub fn operate(
 {
     let second = heap.left(operands);
     let first = heap.left(heap.right(operands));
-    let Some(a) = as_number(first) else {
-        return compare(heap, operator, first, second, scratch);
-    };
-    let Some(b) = as_number(second) else {
-        return compare(heap, operator, first, second, scratch);
-    };
-    Ok(calculate(operator, a, b))
+    match (as_number(first), as_number(second)) {
+        (Some(a), Some(b)) => Ok(calculate(operator, a, b)),
+        _ => compare(heap, operator, first, second, scratch),
+    }
 }
 
 /// The number that a slot holds, if it holds one.
 pub fn as_number(slot: Slot) -> Option<i64>
     ensures { AsNumber slot result }
 {
-    whole(Value::from_slot(slot))
-}
-
-fn whole(value: Value) -> Option<i64>
-    ensures { result ≡ whole_number value }
-{
-    match value {
+    match Value::from(slot) {
         Value::Number(n) => Some(n),
         _ => None,
     }
@@ -58,14 +49,8 @@ fn compare(
     ensures { Compared (stored heap.now) scratch.old operator first second result }
 {
     match operator {
-        Operator::Equal => match same(heap, first, second, scratch) {
-            Ok(answer) => Ok(truth(answer)),
-            Err(refusal) => Err(refusal),
-        },
-        Operator::Unequal => match same(heap, first, second, scratch) {
-            Ok(answer) => Ok(truth(!answer)),
-            Err(refusal) => Err(refusal),
-        },
+        Operator::Equal => Ok(truth(same(heap, first, second, scratch)?)),
+        Operator::Unequal => Ok(truth(!same(heap, first, second, scratch)?)),
         _ => Ok(Control::Fail(TYPE)),
     }
 }
@@ -75,10 +60,7 @@ fn same(heap: &Heap<'_>, first: Slot, second: Slot, scratch: &mut [u32]) -> Resu
     ensures { SameSim (stored heap.now) scratch.old first second result }
 {
     let budget = scratch.len();
-    match same_value(heap.words, first, second, scratch, budget) {
-        Ok(answer) => Ok(answer),
-        Err(Full) => Err(Refusal::TooLarge),
-    }
+    same_value(heap.words, first, second, scratch, budget).map_err(|_| Refusal::TooLarge)
 }
 
 fn calculate(operator: Operator, a: i64, b: i64) -> Control
@@ -97,31 +79,29 @@ fn calculate(operator: Operator, a: i64, b: i64) -> Control
     }
 }
 
+/// The number, or that it does not fit.
 fn number(exact: Option<i64>) -> Control
     ensures { Numbers exact result }
 {
     match exact {
-        Some(n) => Control::Give(Value::Number(n).to_slot()),
+        Some(n) => Control::Give(Slot::from(Value::Number(n))),
         None => Control::Fail(BIG),
     }
 }
 
-fn quotient(division: Division) -> Control
+/// As `number`, of what fails in two ways; one function for both would make every sum's failure a `DivisionError`.
+fn quotient(division: Result<i64, DivisionError>) -> Control
     ensures { Divides division result }
 {
     match division {
-        Division::Result(n) => Control::Give(Value::Number(n).to_slot()),
-        Division::TooBig => Control::Fail(BIG),
-        Division::ByZero => Control::Fail(ZERO),
+        Ok(n) => Control::Give(Slot::from(Value::Number(n))),
+        Err(DivisionError::TooBig) => Control::Fail(BIG),
+        Err(DivisionError::ByZero) => Control::Fail(ZERO),
     }
 }
 
 fn truth(answer: bool) -> Control
     ensures { Truly answer result }
 {
-    if answer {
-        Control::Give(TRUE)
-    } else {
-        Control::Give(FALSE)
-    }
+    Control::Give(if answer { TRUE } else { FALSE })
 }

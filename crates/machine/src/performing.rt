@@ -1,88 +1,65 @@
 //! An operation is done on its operands, of which the last one comes first.
 
 ghost use Rattle.std.specs.Prelude.{◌+◌, ◌*◌, ◌<◌, length, MatchResult};
-ghost use Rattle.store.specs.Heap.{stored};
-ghost use Rattle.machine.specs.Frames.{Grows};
+ghost use Rattle.store.specs.Heap.{stored, Grows};
 ghost use Rattle.machine.specs.Operators.{Paired};
-ghost use Rattle.machine.specs.Performing.{AskSim, EnterSim, PerformSim, Tupled, Untupled};
+ghost use Rattle.machine.specs.Performing.{AskSim, EnterSim, PerformSim};
 
 use crate::atoms::UNDEF;
 use crate::operators::operate;
-use crate::state::{Control, Outcome, Refusal, Site};
-use code::{Builtin, Operation, Program, VALUES, find_function, read_operation};
-use store::{Full, Heap, Slot};
-use values::{Atom, EMPTY_TUPLE, PAIR, TUPLE, Value, WorkerId};
+use crate::state::{Control, Outcome, Refusal, Site, Worker};
+use code::{Builtin, Operation, Program, VALUES, turn};
+use store::{Cells, Full, Heap, Slot};
+use values::{Atom, NO_ELEMENTS, PAIR, TUPLE, Value, WorkerId};
 
-/// What an operation leads to; refuses where the heap has not a cell for each operand and one more, or where the first of two
-/// operands to compare is too large for the scratch words.
-pub fn perform(
-    program: Program<'_>,
-    heap: &mut Heap<'_>,
-    scratch: &mut [u32],
-    me: WorkerId,
-    operation: Slot,
-    operands: Slot,
-    section: u32,
-    frames: Slot,
-) -> Result<Outcome, Refusal>
-    ensures grows { Grows (stored heap.old) (stored heap.new) }
-    ensures sim { PerformSim program.entry.code.now program.entry.functions.now (stored heap.old) (stored heap.new) scratch.old me.0 operation operands section frames result }
-{
-    match read_operation(program.code, operation) {
-        Operation::MakeTuple => match make_tuple(heap, operands) {
-            Ok(tuple) => Ok(Outcome::GoesOn(Control::Give(tuple), frames)),
-            Err(Full) => Err(Refusal::Full),
-        },
-        Operation::MakePair => match make_pair(heap, operands) {
-            Ok(pair) => Ok(Outcome::GoesOn(Control::Give(pair), frames)),
-            Err(Full) => Err(Refusal::Full),
-        },
-        Operation::Call(name, count) => match enter_function(
-            program, section, name, count, operands,
-        ) {
-            Some(body) => Ok(Outcome::GoesOn(body, frames)),
-            None => Ok(Outcome::GoesOn(Control::Fail(UNDEF), frames)),
-        },
-        Operation::Spawn(name, count) => match enter_function(
-            program, section, name, count, operands,
-        ) {
-            Some(body) => Ok(Outcome::Spawns(body, frames)),
-            None => Ok(Outcome::GoesOn(Control::Fail(UNDEF), frames)),
-        },
-        Operation::FarCall(function) => Ok(Outcome::Calls(function, operands, frames)),
-        Operation::FarSpawn(function) => Ok(Outcome::SpawnsFar(function, operands, frames)),
-        Operation::Operate(operator) => match operate(heap, operator, operands, scratch) {
-            Ok(control) => Ok(Outcome::GoesOn(control, frames)),
-            Err(refusal) => Err(refusal),
-        },
-        Operation::BuiltIn(builtin) => Ok(ask(heap, me, builtin, operands, frames)),
-        Operation::Unknown => Ok(Outcome::GoesOn(Control::Fail(UNDEF), frames)),
+impl Worker<'_> {
+    /// What an operation leads to; refuses where the heap has not a cell for each operand and one more, or where the first of
+    /// two operands to compare is too large for the scratch words.
+    pub fn perform(
+        self,
+        heap: &mut Heap<'_>,
+        scratch: &mut [u32],
+        operation: Slot,
+        operands: Slot,
+        section: u32,
+        frames: Slot,
+    ) -> Result<Outcome, Refusal>
+        ensures grows { Grows (stored heap.old) (stored heap.new) }
+        ensures sim { PerformSim self.entry.program.code.now self.entry.program.functions.now
+            (stored heap.old) (stored heap.new) scratch.old self.entry.me.0 operation operands section frames result }
+    {
+        match Operation::read(self.program.code, operation) {
+            Operation::MakeTuple => {
+                let tuple = turn(heap, TUPLE, operands, NO_ELEMENTS)?;
+                Ok(Outcome::GoesOn(Control::Give(tuple), frames))
+            }
+            Operation::MakePair => {
+                let pair = make_pair(heap, operands)?;
+                Ok(Outcome::GoesOn(Control::Give(pair), frames))
+            }
+            // Two arms: with what differs given as a closure, the check lost the closure's result.
+            Operation::Call(name, count) => {
+                match enter_function(self.program, section, name, count, operands) {
+                    Some(body) => Ok(Outcome::GoesOn(body, frames)),
+                    None => Ok(Outcome::GoesOn(Control::Fail(UNDEF), frames)),
+                }
+            }
+            Operation::Spawn(name, count) => {
+                match enter_function(self.program, section, name, count, operands) {
+                    Some(body) => Ok(Outcome::Spawns(body, frames)),
+                    None => Ok(Outcome::GoesOn(Control::Fail(UNDEF), frames)),
+                }
+            }
+            Operation::FarCall(function) => Ok(Outcome::Calls(function, operands, frames)),
+            Operation::FarSpawn(function) => Ok(Outcome::SpawnsFar(function, operands, frames)),
+            Operation::Operate(operator) => {
+                let control = operate(heap, operator, operands, scratch)?;
+                Ok(Outcome::GoesOn(control, frames))
+            }
+            Operation::BuiltIn(builtin) => Ok(ask(heap, self.me, builtin, operands, frames)),
+            Operation::Unknown => Ok(Outcome::GoesOn(Control::Fail(UNDEF), frames)),
+        }
     }
-}
-
-/// The tuple of the operands, a cell for each.
-fn make_tuple(heap: &mut Heap<'_>, operands: Slot) -> Result<Slot, Full>
-    ensures grows { Grows (stored heap.old) (stored heap.new) }
-    ensures cases { MatchResult result
-        (λ s. Tupled (stored heap.old) (stored heap.new) operands s)
-        (λ _. Untupled (stored heap.old) operands) }
-{
-    let mut tuple = Slot {
-        kind: EMPTY_TUPLE,
-        low: 0,
-        high: 0,
-    };
-    let mut rest = operands;
-    'operands: while rest.kind == VALUES {
-        let value = heap.left(rest);
-        let next = heap.right(rest);
-        tuple = match heap.put(TUPLE, value, tuple) {
-            Ok(slot) => slot,
-            Err(full) => return Err(full),
-        };
-        rest = next;
-    }
-    Ok(tuple)
 }
 
 /// The pair of the two operands.
@@ -95,10 +72,7 @@ fn make_pair(heap: &mut Heap<'_>, operands: Slot) -> Result<Slot, Full>
     let second = heap.left(operands);
     let rest = heap.right(operands);
     let first = heap.left(rest);
-    match heap.put(PAIR, first, second) {
-        Ok(slot) => Ok(slot),
-        Err(full) => Err(full),
-    }
+    heap.put(PAIR, first, second)
 }
 
 /// The body of a function of the section at work, if it has one of that name and count; the operands are its environment.
@@ -109,18 +83,15 @@ fn enter_function(
     count: u32,
     operands: Slot,
 ) -> Option<Control>
-    ensures { EnterSim program.entry.code.now program.entry.functions.now section name.0 count operands result }
+    ensures { EnterSim program.entry.code.now program.entry.functions.now
+        section name.0 count operands result }
 {
-    match find_function(program, section, name, count) {
-        Some(body) => {
-            let site = Site {
-                env: operands,
-                section,
-            };
-            Some(Control::Enter(body, site))
-        }
-        None => None,
-    }
+    let body = program.find(section, name, count)?;
+    let site = Site {
+        env: operands,
+        section,
+    };
+    Some(Control::Enter(body, site))
 }
 
 /// A built-in function: the worker itself and its own exit are answered here, the others are asked for.
@@ -128,13 +99,9 @@ fn ask(heap: &Heap<'_>, me: WorkerId, builtin: Builtin, operands: Slot, frames: 
     ensures { AskSim (stored heap.now) me.0 builtin operands frames result }
 {
     match builtin {
-        Builtin::Itself => Outcome::GoesOn(Control::Give(Value::Worker(me).to_slot()), frames),
-        Builtin::Exit => {
-            if heap.right(operands).kind == VALUES {
-                Outcome::Asks(builtin, operands, frames)
-            } else {
-                Outcome::GoesOn(Control::Fail(heap.left(operands)), frames)
-            }
+        Builtin::Itself => Outcome::GoesOn(Control::Give(Slot::from(Value::Worker(me))), frames),
+        Builtin::Exit if heap.right(operands).kind != VALUES => {
+            Outcome::GoesOn(Control::Fail(heap.left(operands)), frames)
         }
         _ => Outcome::Asks(builtin, operands, frames),
     }

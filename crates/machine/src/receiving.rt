@@ -1,22 +1,28 @@
 //! A worker that waits takes the first message that some clause matches, goes on late, or waits on.
 
-ghost use Rattle.store.specs.Heap.{stored};
-ghost use Rattle.machine.specs.Frames.{Grows};
+ghost use Rattle.store.specs.Heap.{stored, Grows};
 ghost use Rattle.machine.specs.Receiving.{TakeSim};
 
 use crate::state::{Control, Site};
-use matching::{Mailbox, Taken, take_first};
-use store::{Full, Heap, Slot, left, right};
+use matching::{Chosen, Clauses, Mailbox, Taken};
+use store::{Cells, Full, Heap, Slot};
 
-/// What a worker that waits comes to.
+/// What a worker that waits comes to, and its mailbox then.
 #[derive(Clone, Copy)]
-pub enum Waited {
+pub struct Waited {
+    pub next: Next,
+    pub mailbox: Mailbox,
+}
+
+/// What a worker that waits does next.
+#[derive(Clone, Copy, Debug, PartialEq, Eq)]
+pub enum Next {
     /// It took a message, and goes on with this control; the mailbox holds the others.
-    Took(Control, Mailbox),
+    Took(Control),
     /// Its time has come, and it goes on with this control; the mailbox holds the same messages.
-    Late(Control, Mailbox),
+    Late(Control),
     /// It waits on; the mailbox holds the same messages, and all of them are seen.
-    Waits(Mailbox),
+    Waits,
 }
 
 /// Takes the first message that some clause of the receive matches; where there is none, goes on with the late body if the
@@ -33,26 +39,25 @@ pub fn take_message(
     ensures grows { Grows (stored heap.old) (stored heap.new) }
     ensures sim { TakeSim code.now (stored heap.old) (stored heap.new) receive site mailbox due result }
 {
-    let clauses = left(code, receive);
-    let taken = match take_first(code, heap, clauses, mailbox, site.env) {
-        Ok(taken) => taken,
-        Err(full) => return Err(full),
+    let clauses = Clauses {
+        code,
+        first: code.left(receive),
+        env: site.env,
     };
-    match taken {
-        Taken::Found(received) => {
-            let site = Site {
-                env: received.chosen.env,
-                section: site.section,
-            };
-            Ok(Waited::Took(Control::Enter(received.chosen.body, site), received.mailbox))
+    let Taken { chosen, mailbox } = clauses.take_first(heap, mailbox)?;
+    match chosen {
+        Some(Chosen { body, env }) => {
+            let next = Next::Took(Control::Enter(body, Site { env, ..site }));
+            Ok(Waited { next, mailbox })
         }
-        Taken::Nothing(seen) => {
-            if due {
-                let late = right(code, right(code, receive));
-                Ok(Waited::Late(Control::Enter(late, site), seen))
-            } else {
-                Ok(Waited::Waits(seen))
-            }
+        None if due => {
+            let late = code.right(code.right(receive));
+            let next = Next::Late(Control::Enter(late, site));
+            Ok(Waited { next, mailbox })
+        }
+        None => {
+            let next = Next::Waits;
+            Ok(Waited { next, mailbox })
         }
     }
 }

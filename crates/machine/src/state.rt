@@ -1,17 +1,30 @@
 //! A worker's state as a value, and what a turn of it leads to.
 
-use code::{Builtin, Far};
-use store::Slot;
+ghost use Rattle.std.specs.Prelude.{◌≡◌};
+ghost use Rattle.machine.specs.declared.state.Refusal.TheVariants.{Full as NoRoom};
+
+use crate::frames::Continuation;
+use code::{Builtin, Far, Program};
+use store::{Full, Slot};
+use values::WorkerId;
+
+/// The worker at work, and the program that it runs: what a turn only reads. What it writes is passed beside it, since
+/// contracts on one struct of both would have to say each time that the rest stays.
+#[derive(Clone, Copy)]
+pub struct Worker<'a> {
+    pub program: Program<'a>,
+    pub me: WorkerId,
+}
 
 /// Where code is at work: what its names are bound to, and the section of the program.
-#[derive(Clone, Copy)]
+#[derive(Clone, Copy, Debug, PartialEq, Eq)]
 pub struct Site {
     pub env: Slot,
     pub section: u32,
 }
 
 /// What a worker does next. Slots of code refer to the code's cells, those of values to the heap's.
-#[derive(Clone, Copy)]
+#[derive(Clone, Copy, Debug, PartialEq, Eq)]
 pub enum Control {
     /// An expression is taken up.
     Eval(Slot, Site),
@@ -41,12 +54,20 @@ pub enum Outcome {
     Calls(Far, Slot, Slot),
     SpawnsFar(Far, Slot, Slot),
     /// The receive waits from now on for so long.
-    WaitsFor(Slot, Site, u64, Slot),
+    WaitsFor(Continuation, u64),
 }
 
 /// Why a turn was not taken: the heap has no cell left, or the scratch words are too few to compare a value.
-#[derive(Clone, Copy)]
+#[derive(Clone, Copy, Debug, PartialEq, Eq)]
 pub enum Refusal {
     Full,
     TooLarge,
+}
+
+impl From<Full> for Refusal {
+    ghost from_gives = { λ _ refusal. refusal ≡ NoRoom };
+
+    fn from(_full: Full) -> Refusal {
+        Refusal::Full
+    }
 }

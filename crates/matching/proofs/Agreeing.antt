@@ -1,7 +1,9 @@
 -- A pattern's tree fits a value's tree where the pattern matches the value, and binds the same.
 -- The two trees are shaped alike, so this is an induction on the pattern; a pattern that stands for one value has the tree
 -- of that value, and trees of values are the same where the values are.
-use Rattle.std.proofs.Common.{◌≡◌, ℕ, suc, ◌+◌, ◌≤◌, max, Bool, true, false, cond, List, ◌∷◌, pos, Some, None, sym, refl, ap, ◌∙◌, subst, arith, lt-ltb}
+use Rattle.std.proofs.Common.{◌≡◌, ℕ, suc, ◌+◌, ◌≤◌, max, Bool, true, false, cond, List, ◌∷◌, pos, Some, None, Option as Maybe, is_some, not, Ok, Err, Result, MatchResult, sym, refl, ap, ◌∙◌, subst, arith, lt-ltb}
+use Rattle.std.specs.Option.{option_flatten}
+use Rattle.std.specs.Result.{result_ok}
 use mathlib.Core.Option.{Option, some, none}
 use Rattle.meaning.specs.Basics.{on_some, Name, same}
 use Rattle.meaning.specs.Bound.{bound_by, bound_by_all}
@@ -10,6 +12,7 @@ use Rattle.meaning.specs.Space.{size_v}
 use Rattle.meaning.specs.Values.{Value, v_int, v_atom, v_tuple, v_nil, v_cons, v_pid, Values, no_v, and_v, same_v, Binding, match, matches}
 use Rattle.store.specs.Heap.{Store, Den}
 use Rattle.store.specs.Tree.{Tree, node, same_tree}
+use Rattle.store.specs.declared.slot.Full.{Full}
 use Rattle.store.specs.declared.slot.Slot.{Slot}
 use Rattle.values.specs.Encoding.{tree_v, tree_vs, Fine, Fines}
 use Rattle.values.specs.Space.{chain}
@@ -174,7 +177,7 @@ agreed_some ns sc (some bs) (some t') t h e =
     let q : t' ≡ t = cc in record { bindings = bs; is = refl; env = subst (λ z. Bindings ns sc bs z) q h }
 
 -- what a walk over the trees says of the pattern and the value
-pub matches_none : {code : List ℕ} {m m₁ m' : Store} {pattern value env : Slot}
+matches_none : {code : List ℕ} {m m₁ m' : Store} {pattern value env : Slot}
     → FitTo code m m₁ 100 pattern value env None → m'.used ≡ m.used
     → Matches code m m' pattern value env None
 matches_none f n =
@@ -186,7 +189,7 @@ matches_none f n =
       spared = λ e. n;
     }
 
-pub matches_some : {code : List ℕ} {m m' : Store} {pattern value env r : Slot}
+matches_some : {code : List ℕ} {m m' : Store} {pattern value env r : Slot}
     → FitTo code m m' 100 pattern value env (Some r) → Matches code m m' pattern value env (Some r)
 matches_some {m' = m'} {r = r} f =
     record {
@@ -207,7 +210,7 @@ matches_some {m' = m'} {r = r} f =
       spared = λ e. absurd (let z : ◌≡◌ {A = ℕ} 0 1 = cc in omega arith);
     }
 
-pub match_lacks : {code : List ℕ} {m m' : Store} {pattern value env : Slot} → FitLacks code m 100 pattern value env
+match_lacks : {code : List ℕ} {m m' : Store} {pattern value env : Slot} → FitLacks code m 100 pattern value env
     → m'.used ≡ m.used
     → MatchLacks code m m' pattern value env
 match_lacks f n =
@@ -216,3 +219,23 @@ match_lacks f n =
           omega (arith, f.short a.stands b.stands c.holds.stands (shallow a), binders-names ns p);
       spared = n;
     }
+
+-- how a match ends: the cells that a walk has made are given back unless it ends with an environment
+pub ends_without : (code : List ℕ) (m m₁ m' : Store) (pattern value env : Slot) (r : Result (Maybe Slot) Full)
+    {x : Maybe (Maybe Slot)} {y : Maybe Slot} {b : Bool}
+    → x ≡ result_ok r → y ≡ option_flatten x → is_some y ≡ not b → b ≡ true
+    → MatchResult r (λ found. FitTo code m m₁ 100 pattern value env found) (λ f. FitLacks code m 100 pattern value env)
+    → m'.used ≡ m.used
+    → MatchResult r (λ found. Matches code m m' pattern value env found) (λ f. MatchLacks code m m' pattern value env)
+ends_without code m m₁ m' pattern value env (Ok None) p q o i h n = matches_none h n
+ends_without code m m₁ m' pattern value env (Ok (Some z)) p q o i h n = cc
+ends_without code m m₁ m' pattern value env (Err f) p q o i h n = match_lacks h n
+
+pub ends_with : (code : List ℕ) (m m' : Store) (pattern value env : Slot) (r : Result (Maybe Slot) Full)
+    {x : Maybe (Maybe Slot)} {y : Maybe Slot} {b : Bool}
+    → x ≡ result_ok r → y ≡ option_flatten x → is_some y ≡ not b → b ≡ false
+    → MatchResult r (λ found. FitTo code m m' 100 pattern value env found) (λ f. FitLacks code m 100 pattern value env)
+    → MatchResult r (λ found. Matches code m m' pattern value env found) (λ f. MatchLacks code m m' pattern value env)
+ends_with code m m' pattern value env (Ok None) p q o i h = cc
+ends_with code m m' pattern value env (Ok (Some z)) p q o i h = matches_some h
+ends_with code m m' pattern value env (Err f) p q o i h = cc

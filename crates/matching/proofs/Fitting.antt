@@ -3,9 +3,10 @@
 -- the trees at hand fit as those at the start do, and the value's edge, which is at most as long as the cells in use, is
 -- one shorter.
 use Rattle.std.proofs.Common.{◌≡◌, ℕ, suc, ◌+◌, ◌-◌, ◌*◌, ◌<◌, ◌≤◌, Bool, true, false, cond, ◌&&◌, eqb, List, length, Some, None, Option as Maybe, sym, refl, ap, ◌∙◌, subst, arith, eq-eqb, ne_eqb}
+use Rattle.std.specs.Bool.{then_some}
 use mathlib.Core.Option.{some, none}
 use Rattle.meaning.specs.Basics.{on_some}
-use Rattle.store.specs.Heap.{Store, left_of, right_of, Den, Kept, Put}
+use Rattle.store.specs.Heap.{Store, left_of, right_of, Den, Put, Grows}
 use Rattle.store.specs.Tree.{Tree, leaf, node, spine, same_tree}
 use Rattle.store.specs.declared.slot.Slot.{Slot}
 use Rattle.code.specs.Clauses.{PatternIs}
@@ -72,7 +73,7 @@ fit_other k a b (node k' x z) e n d = ap (λ z'. cond z' (on_some (fit a x e) (f
 
 -- The walk, step by step.
 pub fitting_starts : {code : List ℕ} {m : Store} {depth : ℕ} {pattern value env : Slot}
-    → Fitting code m m depth pattern value env pattern value env m.used
+    → Fitting code m m depth pattern value env pattern value env 0
 fitting_starts =
     record {
       hand = λ {used} {p} {v} {e} a b c d.
@@ -84,14 +85,14 @@ fitting_starts =
             value_at = b;
             env_at = c;
             shallow = d;
-            short = spine-fits b;
+            short = omega (arith, spine-fits b);
             same = refl;
             count = refl;
           };
     }
 
-pub fits_any : {code : List ℕ} {m₀ m : Store} {depth left : ℕ} {p₀ v₀ e₀ p v e : Slot} → PatternIs p Any
-    → Fitting code m₀ m depth p₀ v₀ e₀ p v e left
+pub fits_any : {code : List ℕ} {m₀ m : Store} {depth done : ℕ} {p₀ v₀ e₀ p v e : Slot} → PatternIs p Any
+    → Fitting code m₀ m depth p₀ v₀ e₀ p v e done
     → FitTo code m₀ m depth p₀ v₀ e₀ (Some e)
 fits_any k f =
     record {
@@ -104,9 +105,9 @@ fits_any k f =
           };
     }
 
-pub fits_bind : {code : List ℕ} {m₀ m m' : Store} {depth left : ℕ} {p₀ v₀ e₀ p v e r : Slot} → PatternIs p Bind
+pub fits_bind : {code : List ℕ} {m₀ m m' : Store} {depth done : ℕ} {p₀ v₀ e₀ p v e r : Slot} → PatternIs p Bind
     → Put m m' 31 v e r
-    → Fitting code m₀ m depth p₀ v₀ e₀ p v e left → FitTo code m₀ m' depth p₀ v₀ e₀ (Some r)
+    → Fitting code m₀ m depth p₀ v₀ e₀ p v e done → FitTo code m₀ m' depth p₀ v₀ e₀ (Some r)
 fits_bind k q f =
     record {
       to = λ a b c d. let h = f.hand a b c d in
@@ -118,18 +119,18 @@ fits_bind k q f =
           };
     }
 
-pub lacks_bind : {code : List ℕ} {m₀ m : Store} {depth left : ℕ} {p₀ v₀ e₀ p v e : Slot} → PatternIs p Bind
-    → length m.words ≡ length m₀.words
-    → length m.words < 6 * (m.used + 1) → Fitting code m₀ m depth p₀ v₀ e₀ p v e left
+pub lacks_bind : {code : List ℕ} {m₀ m : Store} {depth done : ℕ} {p₀ v₀ e₀ p v e : Slot} → PatternIs p Bind
+    → Grows m₀ m → length m.words < 6 * (m.used + 1) → Fitting code m₀ m depth p₀ v₀ e₀ p v e done
     → FitLacks code m₀ depth p₀ v₀ e₀
 lacks_bind k l q f =
-    record { short = λ a b c d. let h = f.hand a b c d in omega (arith, h.count, bind_binds k h.pattern_at) }
+    record { short = λ a b c d. let h = f.hand a b c d in omega (arith, h.count, l.long, bind_binds k h.pattern_at) }
 
-pub fits_alike : {code : List ℕ} {m₀ m : Store} {depth left : ℕ} {p₀ v₀ e₀ p v e x : Slot} → PatternIs p (Leaf x)
-    → true ≡ (eqb x.kind v.kind && (eqb x.low v.low && eqb x.high v.high))
-    → Fitting code m₀ m depth p₀ v₀ e₀ p v e left
-    → FitTo code m₀ m depth p₀ v₀ e₀ (Some e)
-fits_alike k q f =
+-- a leaf fits where the slots are alike, and binds nothing
+pub fits_leaf : {code : List ℕ} {m₀ m : Store} {depth done : ℕ} {p₀ v₀ e₀ p v e x : Slot} (b : Bool) → PatternIs p (Leaf x)
+    → b ≡ (eqb x.kind v.kind && (eqb x.low v.low && eqb x.high v.high))
+    → Fitting code m₀ m depth p₀ v₀ e₀ p v e done
+    → FitTo code m₀ m depth p₀ v₀ e₀ (then_some b e)
+fits_leaf true k q f =
     record {
       to = λ a b c d. let h = f.hand a b c d in
           record {
@@ -139,12 +140,7 @@ fits_alike k q f =
             count = omega (arith, h.count, leaf_binds k h.pattern_at);
           };
     }
-
-pub misfit_leaf : {code : List ℕ} {m₀ m : Store} {depth left : ℕ} {p₀ v₀ e₀ p v e x : Slot} → PatternIs p (Leaf x)
-    → false ≡ (eqb x.kind v.kind && (eqb x.low v.low && eqb x.high v.high))
-    → Fitting code m₀ m depth p₀ v₀ e₀ p v e left
-    → FitTo code m₀ m depth p₀ v₀ e₀ None
-misfit_leaf k q f =
+fits_leaf false k q f =
     record { to = λ a b c d. let h = f.hand a b c d in h.same ∙ fit_leaf h.e k q h.pattern_at h.value_at }
 
 -- a pattern that is a node, with its parts
@@ -152,9 +148,9 @@ node_of : {code : Store} {p x : Slot} {t : Tree} → PatternIs p (Node x) → De
 node_of {code} {t = t} k d = is_node t (subst (λ (q : Slot). 16 ≤ q.kind) (sym k.0) k.1)
     (subst (λ (q : Slot). Den code q t) (sym k.0) d)
 
-pub misfit_kind : {code : List ℕ} {m₀ m : Store} {depth left : ℕ} {p₀ v₀ e₀ p v e x : Slot} → PatternIs p (Node x)
+pub misfit_kind : {code : List ℕ} {m₀ m : Store} {depth done : ℕ} {p₀ v₀ e₀ p v e x : Slot} → PatternIs p (Node x)
     → (x.kind ≡ v.kind → ⊥)
-    → Fitting code m₀ m depth p₀ v₀ e₀ p v e left → FitTo code m₀ m depth p₀ v₀ e₀ None
+    → Fitting code m₀ m depth p₀ v₀ e₀ p v e done → FitTo code m₀ m depth p₀ v₀ e₀ None
 misfit_kind {x} k n f =
     record {
       to = λ a b c d. let h = f.hand a b c d in let q = node_of k h.pattern_at in
@@ -163,7 +159,7 @@ misfit_kind {x} k n f =
     }
 
 -- both at hand are nodes of one kind
-record TwoNodes (code m₀ m : Store) (depth left : ℕ) (x v env : Slot) (p₀ v₀ e₀ : Tree) : Type 0 where
+record TwoNodes (code m₀ m : Store) (depth done : ℕ) (x v env : Slot) (p₀ v₀ e₀ : Tree) : Type 0 where
   a : Tree
   b : Tree
   c : Tree
@@ -176,18 +172,18 @@ record TwoNodes (code m₀ m : Store) (depth left : ℕ) (x v env : Slot) (p₀ 
   env_at : Den m env e
   shallow_left : suc (deep a) ≤ depth
   shallow_right : deep b ≤ depth
-  short : suc (spine d) ≤ left
+  short : spine d + (done + 1) ≤ m₀.used
   same : fit p₀ v₀ e₀ ≡ on_some (fit a c e) (fit b d)
   count : m.used + (binders a + binders b) ≡ m₀.used + binders p₀
 
-two_nodes : {code m₀ m : Store} {depth left : ℕ} {p v env x : Slot} {p₀ v₀ e₀ : Tree} → PatternIs p (Node x)
+two_nodes : {code m₀ m : Store} {depth done : ℕ} {p v env x : Slot} {p₀ v₀ e₀ : Tree} → PatternIs p (Node x)
     → x.kind ≡ v.kind
-    → AtHand code m₀ m depth p v env left p₀ v₀ e₀ → TwoNodes code m₀ m depth left x v env p₀ v₀ e₀
-two_nodes {depth} {left} {v} {x} k s h =
+    → AtHand code m₀ m depth p v env done p₀ v₀ e₀ → TwoNodes code m₀ m depth done x v env p₀ v₀ e₀
+two_nodes {m₀} {depth} {done} {v} {x} k s h =
     let q = node_of k h.pattern_at in
     let y = is_node h.v (omega (arith, subst (λ (z : Slot). 16 ≤ z.kind) (sym k.0) k.1)) h.value_at in
     let dp : deep (node x.kind q.one q.two) ≤ depth = subst (λ t. deep t ≤ depth) q.is h.shallow in
-    let sp : spine (node v.kind y.one y.two) ≤ left = subst (λ t. spine t ≤ left) y.is h.short in
+    let sp : spine (node v.kind y.one y.two) + done ≤ m₀.used = subst (λ t. spine t + done ≤ m₀.used) y.is h.short in
     record {
       a = q.one;
       b = q.two;
@@ -209,14 +205,14 @@ two_nodes {depth} {left} {v} {x} k s h =
       count = omega (arith, h.count, ap binders q.is);
     }
 
-pub misfit_edge : {code : List ℕ} {m₀ m : Store} {depth left : ℕ} {p₀ v₀ e₀ p v e x : Slot} → PatternIs p (Node x)
-    → x.kind ≡ v.kind → left ≡ 0
-    → Fitting code m₀ m depth p₀ v₀ e₀ p v e left → FitTo code m₀ m depth p₀ v₀ e₀ None
-misfit_edge k s z f = record { to = λ a b c d. absurd (omega (arith, (two_nodes k s (f.hand a b c d)).short)) }
+-- a value's edge has no more nodes than there are cells in use
+pub misfit_edge : {code : List ℕ} {m₀ m : Store} {depth done : ℕ} {p₀ v₀ e₀ p v e : Slot} → m₀.used < done
+    → Fitting code m₀ m depth p₀ v₀ e₀ p v e done → FitTo code m₀ m depth p₀ v₀ e₀ None
+misfit_edge z f = record { to = λ a b c d. absurd (omega (arith, (f.hand a b c d).short)) }
 
-pub misfit_deep : {code : List ℕ} {m₀ m : Store} {depth left : ℕ} {p₀ v₀ e₀ p v e x : Slot} → PatternIs p (Node x)
+pub misfit_deep : {code : List ℕ} {m₀ m : Store} {depth done : ℕ} {p₀ v₀ e₀ p v e x : Slot} → PatternIs p (Node x)
     → x.kind ≡ v.kind → depth ≡ 0
-    → Fitting code m₀ m depth p₀ v₀ e₀ p v e left → FitTo code m₀ m depth p₀ v₀ e₀ None
+    → Fitting code m₀ m depth p₀ v₀ e₀ p v e done → FitTo code m₀ m depth p₀ v₀ e₀ None
 misfit_deep k s z f = record { to = λ a b c d. absurd (omega (arith, (two_nodes k s (f.hand a b c d)).shallow_left)) }
 
 -- what was found is this
@@ -230,10 +226,10 @@ read_at : {m : Store} {s s' : Slot} {t : Tree} → s' ≡ s → Den m s t → De
 read_at {m} {t = t} q d = subst (λ (z : Slot). Den m z t) (sym q) d
 
 -- what the walk over the left parts ends with: they do not fit, there is no room, or the right parts are next
-pub misfit_left : {code : List ℕ} {m₀ m m₁ : Store} {depth left : ℕ} {p₀ v₀ e₀ p v e x x₁ v₁ : Slot}
+pub misfit_left : {code : List ℕ} {m₀ m m₁ : Store} {depth done : ℕ} {p₀ v₀ e₀ p v e x x₁ v₁ : Slot}
     → PatternIs p (Node x) → x.kind ≡ v.kind
     → x₁ ≡ left_of code x → v₁ ≡ left_of m.words v → FitTo code m m₁ (depth - 1) x₁ v₁ e None
-    → Fitting code m₀ m depth p₀ v₀ e₀ p v e left → FitTo code m₀ m₁ depth p₀ v₀ e₀ None
+    → Fitting code m₀ m depth p₀ v₀ e₀ p v e done → FitTo code m₀ m₁ depth p₀ v₀ e₀ None
 misfit_left k s l l' o f =
     record {
       to = λ a b c d. let h = two_nodes k s (f.hand a b c d) in
@@ -243,28 +239,28 @@ misfit_left k s l l' o f =
           (omega (arith, h.shallow_left)));
     }
 
-pub lacks_left : {code : List ℕ} {m₀ m : Store} {depth left : ℕ} {p₀ v₀ e₀ p v e x x₁ v₁ : Slot}
+pub lacks_left : {code : List ℕ} {m₀ m : Store} {depth done : ℕ} {p₀ v₀ e₀ p v e x x₁ v₁ : Slot}
     → PatternIs p (Node x) → x.kind ≡ v.kind
-    → x₁ ≡ left_of code x → v₁ ≡ left_of m.words v → length m.words ≡ length m₀.words
-    → FitLacks code m (depth - 1) x₁ v₁ e
-    → Fitting code m₀ m depth p₀ v₀ e₀ p v e left → FitLacks code m₀ depth p₀ v₀ e₀
+    → x₁ ≡ left_of code x → v₁ ≡ left_of m.words v → Grows m₀ m → FitLacks code m (depth - 1) x₁ v₁ e
+    → Fitting code m₀ m depth p₀ v₀ e₀ p v e done → FitLacks code m₀ depth p₀ v₀ e₀
 lacks_left k s l l' n o f =
     record {
       short = λ a b c d. let h = two_nodes k s (f.hand a b c d) in
           omega (
             arith,
             h.count,
+            n.long,
             o.short (read_at l h.left_pattern) (read_at l' h.left_value) h.env_at
                 (omega (arith, h.shallow_left)),
           );
     }
 
-pub fitting_goes_on : {code : List ℕ} {m₀ m m₁ : Store} {depth left : ℕ} {p₀ v₀ e₀ p v e x x₁ x₂ v₁ v₂ e₁ : Slot}
+pub fitting_goes_on : {code : List ℕ} {m₀ m m₁ : Store} {depth done : ℕ} {p₀ v₀ e₀ p v e x x₁ x₂ v₁ v₂ e₁ : Slot}
     → PatternIs p (Node x)
     → x.kind ≡ v.kind → x₁ ≡ left_of code x → x₂ ≡ right_of code x → v₁ ≡ left_of m.words v
     → v₂ ≡ right_of m.words v
-    → Kept m m₁ → FitTo code m m₁ (depth - 1) x₁ v₁ e (Some e₁)
-    → Fitting code m₀ m depth p₀ v₀ e₀ p v e left → Fitting code m₀ m₁ depth p₀ v₀ e₀ x₂ v₂ e₁ (left - 1)
+    → Grows m m₁ → FitTo code m m₁ (depth - 1) x₁ v₁ e (Some e₁)
+    → Fitting code m₀ m depth p₀ v₀ e₀ p v e done → Fitting code m₀ m₁ depth p₀ v₀ e₀ x₂ v₂ e₁ (done + 1)
 fitting_goes_on k s l r l' r' g o f =
     record {
       hand = λ a b c d. let h = two_nodes k s (f.hand a b c d) in
@@ -275,7 +271,7 @@ fitting_goes_on k s l r l' r' g o f =
             v = h.d;
             e = y.tree;
             pattern_at = read_at r h.right_pattern;
-            value_at = keeps g (read_at r' h.right_value);
+            value_at = keeps g.kept (read_at r' h.right_value);
             env_at = y.stands;
             shallow = h.shallow_right;
             short = omega (arith, h.short);

@@ -1,6 +1,6 @@
 pub mod Fitting
 pub mod Agreeing
 pub mod Choosing
-pub mod Turning
+pub mod Mailboxes
 pub mod Receiving
 pub mod Laws

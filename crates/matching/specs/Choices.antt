@@ -57,17 +57,17 @@ pub record Wakes (code : List ℕ) (m : Store) (clauses value env : Slot) (answe
       → CodeCs ns sc (store_of code used) clauses cs
       → Holds ns m value v → Environment ns m env sc bs → answer ≡ opt (choose cs v bs) false (λ c. true)
 
--- how choosing stands: the clauses at hand, of which the first that matches is the first of all
-pub record ClausesLeft (ns sc : List Name) (code : Store) (rest : Slot) (left : ℕ) (cs : Clauses) (v : Value)
+-- how choosing stands after so many clauses: those left, of which the first that matches is the first of all
+pub record ClausesLeft (ns sc : List Name) (code : Store) (rest : Slot) (done : ℕ) (cs : Clauses) (v : Value)
     (bs : List Binding) : Type 0 where
   pub clauses : Clauses
   pub clauses_at : CodeCs ns sc code rest clauses
-  pub short : spine (tree_cs ns sc clauses) ≤ left + 1
+  pub short : spine (tree_cs ns sc clauses) + done ≤ length code.words + 1
   pub same : choose cs v bs ≡ choose clauses v bs
   pub fewer : most_names clauses ≤ most_names cs
 
-pub record Choosing (code : List ℕ) (m₀ m : Store) (clauses value env rest : Slot) (left : ℕ) : Type 0 where
+pub record Choosing (code : List ℕ) (m₀ m : Store) (clauses value env rest : Slot) (done : ℕ) : Type 0 where
   pub hand : {ns sc : List Name} {used : ℕ} {cs : Clauses} {v : Value} {bs : List Binding}
       → CodeCs ns sc (store_of code used) clauses cs
-      → Holds ns m₀ value v → Environment ns m₀ env sc bs → ClausesLeft ns sc (store_of code used) rest left cs v bs
+      → Holds ns m₀ value v → Environment ns m₀ env sc bs → ClausesLeft ns sc (store_of code used) rest done cs v bs
   pub spared : m.used ≡ m₀.used

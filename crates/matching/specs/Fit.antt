@@ -49,8 +49,8 @@ pub record FitLacks (code : List ℕ) (m : Store) (depth : ℕ) (pattern value e
       → deep p ≤ depth
       → length m.words < 6 * (m.used + binders p)
 
--- how a walk stands on the right edge, of which so much is left at most: the trees at hand fit as those at the start do
-pub record AtHand (code m₀ m : Store) (depth : ℕ) (pattern value env : Slot) (left : ℕ)
+-- how a walk stands after so many steps along the right edge: the trees at hand fit as those at the start do
+pub record AtHand (code m₀ m : Store) (depth : ℕ) (pattern value env : Slot) (done : ℕ)
     (p₀ v₀ e₀ : Tree) : Type 0 where
   pub p : Tree
   pub v : Tree
@@ -59,12 +59,12 @@ pub record AtHand (code m₀ m : Store) (depth : ℕ) (pattern value env : Slot)
   pub value_at : Den m value v
   pub env_at : Den m env e
   pub shallow : deep p ≤ depth
-  pub short : spine v ≤ left
+  pub short : spine v + done ≤ m₀.used
   pub same : fit p₀ v₀ e₀ ≡ fit p v e
   pub count : m.used + binders p ≡ m₀.used + binders p₀
 
 pub record Fitting (code : List ℕ) (m₀ m : Store) (depth : ℕ) (pattern₀ value₀ env₀ pattern value env : Slot)
-    (left : ℕ) : Type 0 where
+    (done : ℕ) : Type 0 where
   pub hand : {used : ℕ} {p v e : Tree} → Den (store_of code used) pattern₀ p → Den m₀ value₀ v → Den m₀ env₀ e
       → deep p ≤ depth
-      → AtHand (store_of code used) m₀ m depth pattern value env left p v e
+      → AtHand (store_of code used) m₀ m depth pattern value env done p v e

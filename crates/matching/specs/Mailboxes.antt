@@ -1,8 +1,8 @@
 -- A mailbox in cells: three chains of messages, and what is done to them.
-use Rattle.std.specs.Prelude.{◌≡◌, ◌+◌, ◌*◌, ◌<◌, List, [], ◌∷◌, ◌++◌, reverse, length}
+use Rattle.std.specs.Prelude.{◌≡◌, ◌+◌, List, [], ◌∷◌, ◌++◌, reverse, length}
 use Rattle.meaning.specs.Basics.{Name}
 use Rattle.meaning.specs.Values.{Value}
-use Rattle.store.specs.Heap.{Store, Kept}
+use Rattle.store.specs.Heap.{Store}
 use Rattle.store.specs.declared.slot.Slot.{Slot}
 use Rattle.values.specs.Encoding.{Holds}
 use Rattle.code.specs.Environment.{Chain}
@@ -33,7 +33,6 @@ pub record More (ns : List Name) (m' : Store) (b : Mailbox) (seen mail : List Va
   pub seen_is : after.seen ≡ seen
 
 pub record Pushed (m m' : Store) (b : Mailbox) (message : Slot) (b' : Mailbox) : Type 0 where
-  pub kept : Kept m m'
   pub mail : {ns : List Name} {mail : List Value} {v : Value} → (h : Mail ns m b mail) → Holds ns m message v
       → More ns m' b' h.seen (mail ++ (v ∷ []))
   pub count : m'.used ≡ m.used + 1
@@ -42,19 +41,3 @@ pub record Pushed (m m' : Store) (b : Mailbox) (message : Slot) (b' : Mailbox) :
 pub record Rewound (m m' : Store) (b b' : Mailbox) : Type 0 where
   pub mail : {ns : List Name} {mail : List Value} → (h : Mail ns m b mail) → More ns m' b' [] mail
   pub count : {ns : List Name} {mail : List Value} → (h : Mail ns m b mail) → m'.used ≡ m.used + length h.seen
-
--- a chain is turned round before another, by a cell for each message
-pub record Turned (m m' : Store) (chain onto r : Slot) : Type 0 where
-  pub chains : {ns : List Name} {xs ys : List Value} → Chain ns m chain xs → Chain ns m onto ys
-      → Chain ns m' r (reverse xs ++ ys)
-  pub count : {ns : List Name} {xs : List Value} → Chain ns m chain xs → m'.used ≡ m.used + length xs
-
-pub record TurnLacks (m : Store) (chain : Slot) : Type 0 where
-  pub short : {ns : List Name} {xs : List Value} → Chain ns m chain xs → length m.words < 6 * (m.used + length xs)
-
--- how turning stands: the messages left, and those that are done
-pub record Turning (m₀ m : Store) (chain onto rest done : Slot) : Type 0 where
-  pub left : {ns : List Name} {xs : List Value} → Chain ns m₀ chain xs → (us : List Value) × Chain ns m rest us
-      × (m.used + length us ≡ m₀.used + length xs)
-  pub chains : {ns : List Name} {xs ys : List Value} → Chain ns m₀ chain xs → Chain ns m₀ onto ys
-      → (us ws : List Value) × Chain ns m rest us × Chain ns m done ws × (reverse us ++ ws ≡ reverse xs ++ ys)

@@ -1,86 +1,69 @@
 //! The first clause that matches a value.
 
-ghost use Rattle.std.specs.Prelude.{◌≡◌, length, MatchResult};
-ghost use Rattle.store.specs.Heap.{stored, Kept};
+ghost use Rattle.std.specs.Prelude.{◌≡◌, MatchResult};
+ghost use Rattle.store.specs.Heap.{stored, Grows};
 ghost use Rattle.matching.specs.Choices.{ChoiceLacks, Chooses, Wakes};
 
 use crate::pattern::fits;
-use code::Clauses;
+use code::Clause;
 use store::{Full, Heap, Slot};
 
-/// The body of a clause that matched, and the environment with what its pattern bound.
+/// The clauses at hand, in the code's cells, and what names are bound to where they stand.
 #[derive(Clone, Copy)]
+pub struct Clauses<'a> {
+    pub code: &'a [u32],
+    pub first: Slot,
+    pub env: Slot,
+}
+
+/// The body of a clause that matched, and the environment with what its pattern bound.
+#[derive(Clone, Copy, Debug, PartialEq, Eq)]
 pub struct Chosen {
     pub body: Slot,
     pub env: Slot,
 }
 
-/// The first clause that matches the value, if one does; refuses where there is no cell for each name that the pattern of
-/// some clause binds. If none matches, no cell is taken.
-pub fn choose(
-    code: &[u32],
-    heap: &mut Heap<'_>,
-    clauses: Slot,
-    value: Slot,
-    env: Slot,
-) -> Result<Option<Chosen>, Full>
-    ensures long { length heap.new.words.now ≡ length heap.old.words.now }
-    ensures kept { Kept (stored heap.old) (stored heap.new) }
-    ensures cases { MatchResult result
-        (λ found. Chooses code.now (stored heap.old) (stored heap.new) clauses value env found)
-        (λ _. ChoiceLacks code.now (stored heap.old) (stored heap.new) clauses value env) }
-{
-    let mut rest = clauses;
-    // Clauses are an edge of the code's cells, which is at most one longer than the words.
-    let mut left = code.len();
-    'clauses: loop {
-        let clause = match Clauses::from_slot(code, rest) {
-            Clauses::First(clause) => clause,
-            Clauses::End => return Ok(None),
-        };
-        let found = match fits(code, heap, clause.pattern, value, env) {
-            Ok(found) => found,
-            Err(full) => return Err(full),
-        };
-        match found {
-            Some(bound) => {
+impl Clauses<'_> {
+    /// The first clause that matches the value, if one does; refuses where there is no cell for each name that the pattern
+    /// of some clause binds. If none matches, no cell is taken.
+    pub fn choose(self, heap: &mut Heap<'_>, value: Slot) -> Result<Option<Chosen>, Full>
+        ensures grows { Grows (stored heap.old) (stored heap.new) }
+        ensures cases { MatchResult result
+            (λ found. Chooses self.entry.code.now (stored heap.old) (stored heap.new)
+            self.entry.first value self.entry.env found)
+            (λ _. ChoiceLacks self.entry.code.now (stored heap.old) (stored heap.new)
+            self.entry.first value self.entry.env) }
+    {
+        let mut rest = self.first;
+        // Clauses are an edge of the code's cells, which is at most one longer than the words.
+        'clauses: for _ in 0..=self.code.len() {
+            let Some(clause) = Clause::first(self.code, rest) else {
+                return Ok(None);
+            };
+            if let Some(env) = fits(self.code, heap, clause.pattern, value, self.env)? {
                 return Ok(Some(Chosen {
                     body: clause.body,
-                    env: bound,
+                    env,
                 }));
             }
-            None => rest = clause.rest,
+            rest = clause.rest;
         }
-        if left == 0 {
-            return Ok(None);
-        }
-        left -= 1;
+        Ok(None)
     }
-}
 
-/// Whether some clause matches the message; takes no cell in the end, and refuses as `choose` does.
-pub fn wakes(
-    code: &[u32],
-    heap: &mut Heap<'_>,
-    clauses: Slot,
-    env: Slot,
-    message: Slot,
-) -> Result<bool, Full>
-    ensures long { length heap.new.words.now ≡ length heap.old.words.now }
-    ensures kept { Kept (stored heap.old) (stored heap.new) }
-    ensures spared { heap.new.used ≡ heap.old.used }
-    ensures cases { MatchResult result
-        (λ answer. Wakes code.now (stored heap.old) clauses message env answer)
-        (λ _. ChoiceLacks code.now (stored heap.old) (stored heap.new) clauses message env) }
-{
-    let used = heap.used;
-    let found = match choose(code, heap, clauses, message, env) {
-        Ok(found) => found,
-        Err(full) => return Err(full),
-    };
-    heap.used = used;
-    match found {
-        Some(_) => Ok(true),
-        None => Ok(false),
+    /// Whether some clause matches the message; takes no cell in the end, and refuses as `choose` does.
+    pub fn wakes(self, heap: &mut Heap<'_>, message: Slot) -> Result<bool, Full>
+        ensures grows { Grows (stored heap.old) (stored heap.new) }
+        ensures spared { heap.new.used ≡ heap.old.used }
+        ensures cases { MatchResult result
+            (λ answer. Wakes self.entry.code.now (stored heap.old)
+            self.entry.first message self.entry.env answer)
+            (λ _. ChoiceLacks self.entry.code.now (stored heap.old) (stored heap.new)
+            self.entry.first message self.entry.env) }
+    {
+        let used = heap.used;
+        let found = self.choose(heap, message)?;
+        heap.used = used;
+        Ok(found.is_some())
     }
 }

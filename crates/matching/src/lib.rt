@@ -7,7 +7,7 @@ mod mailbox;
 mod pattern;
 mod receive;
 
-pub use clause::{Chosen, choose, wakes};
-pub use mailbox::{Mailbox, NO_MESSAGES, empty, push, rewind};
-pub use pattern::{VALUES, fits};
-pub use receive::{Received, Taken, take_first};
+pub use clause::{Chosen, Clauses};
+pub use mailbox::{Mailbox, NO_MESSAGES};
+pub use pattern::fits;
+pub use receive::Taken;

@@ -1,18 +1,15 @@
 //! Whether a pattern matches a value: a walk over two trees that are shaped alike.
 
-ghost use Rattle.std.specs.Prelude.{◌≡◌, ◌&&◌, length, MatchResult, ◌==◌};
-ghost use Rattle.store.specs.Heap.{stored, Kept};
+ghost use Rattle.std.specs.Prelude.{MatchResult};
+ghost use Rattle.store.specs.Heap.{stored, Grows};
 ghost use Rattle.matching.specs.Fit.{FitLacks, FitTo};
 ghost use Rattle.matching.specs.Matches.{MatchLacks, Matches};
 
-use code::Pattern;
-use store::{Full, Heap, Slot, both};
+use code::{Pattern, VALUES};
+use store::{Cells, Full, Heap, Slot};
 
 /// How deep a pattern nests to the left at most.
 const DEPTH: u32 = 100;
-
-/// The kind of a chain of values.
-pub const VALUES: u32 = 31;
 
 /// The environment with what the pattern binds in the value, if it matches; refuses where there is no cell for each name
 /// that the pattern binds. If it does not match, no cell is taken.
@@ -23,27 +20,17 @@ pub fn fits(
     value: Slot,
     env: Slot,
 ) -> Result<Option<Slot>, Full>
-    ensures long { length heap.new.words.now ≡ length heap.old.words.now }
-    ensures kept { Kept (stored heap.old) (stored heap.new) }
+    ensures grows { Grows (stored heap.old) (stored heap.new) }
     ensures cases { MatchResult result
         (λ found. Matches code.now (stored heap.old) (stored heap.new) pattern value env found)
         (λ _. MatchLacks code.now (stored heap.old) (stored heap.new) pattern value env) }
 {
     let used = heap.used;
-    let found = match fits_within(code, heap, pattern, value, env, DEPTH) {
-        Ok(found) => found,
-        Err(full) => {
-            heap.used = used;
-            return Err(full);
-        }
-    };
-    match found {
-        Some(bound) => Ok(Some(bound)),
-        None => {
-            heap.used = used;
-            Ok(None)
-        }
+    let found = fits_within(code, heap, pattern, value, env, DEPTH);
+    if found.ok().flatten().is_none() {
+        heap.used = used;
     }
+    found
 }
 
 /// The same, of a pattern that nests at most `depth` deep: a loop along the right edge, and a call for each left part.
@@ -55,8 +42,7 @@ fn fits_within(
     env: Slot,
     depth: u32,
 ) -> Result<Option<Slot>, Full>
-    ensures long { length heap.new.words.now ≡ length heap.old.words.now }
-    ensures kept { Kept (stored heap.old) (stored heap.new) }
+    ensures grows { Grows (stored heap.old) (stored heap.new) }
     ensures cases { MatchResult result
         (λ found. FitTo code.now (stored heap.old) (stored heap.new) depth pattern value env found)
         (λ _. FitLacks code.now (stored heap.old) depth pattern value env) }
@@ -64,55 +50,25 @@ fn fits_within(
     let mut pattern = pattern;
     let mut value = value;
     let mut env = env;
-    let mut left = heap.used;
-    'parts: loop {
-        match Pattern::from_slot(pattern) {
+    // A value's edge is no longer than the cells in use, and no pattern of a program nests deeper.
+    'parts: for _ in 0..=heap.used {
+        let node = match Pattern::from(pattern) {
             Pattern::Any => return Ok(Some(env)),
-            Pattern::Bind => {
-                return match heap.put(VALUES, value, env) {
-                    Ok(bound) => Ok(Some(bound)),
-                    Err(full) => Err(full),
-                };
-            }
-            Pattern::Leaf(leaf) => {
-                return if alike(leaf, value) {
-                    Ok(Some(env))
-                } else {
-                    Ok(None)
-                };
-            }
-            Pattern::Node(node) => {
-                if node.kind != value.kind {
-                    return Ok(None);
-                }
-                // A value's edge is no longer than the cells in use, and no pattern of a program nests deeper.
-                if left == 0 {
-                    return Ok(None);
-                }
-                if depth == 0 {
-                    return Ok(None);
-                }
-                left -= 1;
-                let parts = both(code, node);
-                let values = heap.both(value);
-                let found = match fits_within(code, heap, parts.left, values.left, env, depth - 1) {
-                    Ok(found) => found,
-                    Err(full) => return Err(full),
-                };
-                env = match found {
-                    Some(bound) => bound,
-                    None => return Ok(None),
-                };
-                pattern = parts.right;
-                value = values.right;
-            }
+            Pattern::Bind => return Ok(Some(heap.put(VALUES, value, env)?)),
+            Pattern::Leaf(leaf) => return Ok((leaf == value).then_some(env)),
+            Pattern::Node(node) => node,
+        };
+        if node.kind != value.kind || depth == 0 {
+            return Ok(None);
         }
+        let parts = code.both(node);
+        let values = heap.both(value);
+        let Some(bound) = fits_within(code, heap, parts.left, values.left, env, depth - 1)? else {
+            return Ok(None);
+        };
+        env = bound;
+        pattern = parts.right;
+        value = values.right;
     }
-}
-
-/// Whether two slots have the same three words.
-fn alike(a: Slot, b: Slot) -> bool
-    ensures { result ≡ (a.kind == b.kind && (a.low == b.low && a.high == b.high)) }
-{
-    a.kind == b.kind && a.low == b.low && a.high == b.high
+    Ok(None)
 }

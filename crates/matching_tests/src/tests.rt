@@ -1,24 +1,24 @@
 //! The tests. Code and values are made by hand, as cells of two stores.
 
-use matching::{Mailbox, NO_MESSAGES, Received, Taken, empty, fits, push, rewind, take_first};
+use code::{BIND, CLAUSES};
+use matching::{Chosen, Clauses, Mailbox, NO_MESSAGES, Taken, fits};
 use std::test::Fail;
-use store::{Full, Heap, Slot};
+use store::{Cells, Full, Heap, Slot};
+use values::{NUMBER, PAIR};
 
-const PAIR: u32 = 16;
-
-const CLAUSES: u32 = 27;
-
+/// The kind of a clause, which no decoder asks for.
 const CLAUSE: u32 = 28;
 
-const BIND: Slot = Slot {
-    kind: 7,
+/// A pattern that is a name.
+const NAME: Slot = Slot {
+    kind: BIND,
     low: 0,
     high: 0,
 };
 
 fn number(n: u32) -> Slot {
     Slot {
-        kind: 0,
+        kind: NUMBER,
         low: n,
         high: 0,
     }
@@ -26,9 +26,16 @@ fn number(n: u32) -> Slot {
 
 /// A clause alone, whose body is nothing.
 fn clause(code: &mut Heap<'_>, pattern: Slot) -> Result<Slot, Full> {
-    match code.put(CLAUSE, pattern, NO_MESSAGES) {
-        Ok(first) => code.put(CLAUSES, first, NO_MESSAGES),
-        Err(full) => Err(full),
+    let first = code.put(CLAUSE, pattern, NO_MESSAGES)?;
+    code.put(CLAUSES, first, NO_MESSAGES)
+}
+
+/// Clauses where no name is bound.
+fn alone(code: &[u32], first: Slot) -> Clauses<'_> {
+    Clauses {
+        code,
+        first,
+        env: NO_MESSAGES,
     }
 }
 
@@ -36,61 +43,51 @@ fn clause(code: &mut Heap<'_>, pattern: Slot) -> Result<Slot, Full> {
 fn filled(heap: &mut Heap<'_>, mailbox: Mailbox, first: u32, count: u32) -> Result<Mailbox, Full> {
     let mut mailbox = mailbox;
     for i in 0..count {
-        mailbox = match push(heap, mailbox, number(first.wrapping_add(i))) {
-            Ok(mailbox) => mailbox,
-            Err(full) => return Err(full),
-        };
+        mailbox = mailbox.push(heap, number(first.wrapping_add(i)))?;
     }
     Ok(mailbox)
 }
 
 /// What is received, where something is.
 fn received(
-    code: &[u32],
+    clauses: Clauses<'_>,
     heap: &mut Heap<'_>,
-    clauses: Slot,
     mailbox: Mailbox,
-) -> Result<Received, Full> {
-    match take_first(code, heap, clauses, mailbox, NO_MESSAGES) {
-        Ok(Taken::Found(received)) => Ok(received),
-        Ok(Taken::Nothing(_)) => Err(Full),
-        Err(full) => Err(full),
-    }
+) -> Result<(Chosen, Mailbox), Full> {
+    let Taken { chosen, mailbox } = clauses.take_first(heap, mailbox)?;
+    Ok((chosen.ok_or(Full)?, mailbox))
 }
 
 /// The mailbox, where nothing is received.
 fn passed_over(
-    code: &[u32],
+    clauses: Clauses<'_>,
     heap: &mut Heap<'_>,
-    clauses: Slot,
     mailbox: Mailbox,
 ) -> Result<Mailbox, Full> {
-    match take_first(code, heap, clauses, mailbox, NO_MESSAGES) {
-        Ok(Taken::Found(_)) => Err(Full),
-        Ok(Taken::Nothing(mailbox)) => Ok(mailbox),
-        Err(full) => Err(full),
+    match clauses.take_first(heap, mailbox)? {
+        Taken {
+            chosen: None,
+            mailbox,
+        } => Ok(mailbox),
+        _ => Err(Full),
     }
 }
 
 /// What the next messages bind, one after another, as the digits of a number.
 fn digits(
-    code: &[u32],
+    anything: Clauses<'_>,
     heap: &mut Heap<'_>,
-    anything: Slot,
     mailbox: Mailbox,
     count: u32,
 ) -> Result<u64, Full> {
     let mut mailbox = mailbox;
     let mut all: u64 = 0;
     for _ in 0..count {
-        let next = match received(code, heap, anything, mailbox) {
-            Ok(next) => next,
-            Err(full) => return Err(full),
-        };
+        let (chosen, rest) = received(anything, heap, mailbox)?;
         all = all
             .wrapping_mul(10)
-            .wrapping_add(u64::from(heap.left(next.chosen.env).low));
-        mailbox = next.mailbox;
+            .wrapping_add(u64::from(heap.left(chosen.env).low));
+        mailbox = rest;
     }
     Ok(all)
 }
@@ -103,13 +100,13 @@ fn the_last_name_is_bound_first(rt: HostRuntime) -> Result<(), Fail> {
         words: &mut code_words,
         used: 0,
     };
-    let both = code.put(PAIR, BIND, BIND)?;
+    let both = code.put(PAIR, NAME, NAME)?;
     let mut heap = Heap {
         words: &mut words,
         used: 0,
     };
     let value = heap.put(PAIR, number(1), number(2))?;
-    let env = fits(&code_words, &mut heap, both, value, NO_MESSAGES)?.unwrap_or(BIND);
+    let env = fits(&code_words, &mut heap, both, value, NO_MESSAGES)?.unwrap_or(NAME);
     assert_eq!(rt; heap.left(env), number(2));
     assert_eq!(rt; heap.left(heap.right(env)), number(1));
     assert_eq!(rt; heap.used, 3, "a cell for each name");
@@ -125,17 +122,17 @@ fn messages_that_are_passed_over_stay_in_order(rt: HostRuntime) -> Result<(), Fa
         used: 0,
     };
     let three = clause(&mut code, number(3))?;
-    let anything = clause(&mut code, BIND)?;
+    let anything = clause(&mut code, NAME)?;
     let mut heap = Heap {
         words: &mut words,
         used: 0,
     };
-    let mailbox = filled(&mut heap, empty(), 1, 5)?;
-    let next = received(&code_words, &mut heap, three, mailbox)?;
-    let mailbox = rewind(&mut heap, next.mailbox)?;
+    let mailbox = filled(&mut heap, Mailbox::new(), 1, 5)?;
+    let (_, mailbox) = received(alone(&code_words, three), &mut heap, mailbox)?;
+    let mailbox = mailbox.rewind(&mut heap)?;
     let mailbox = filled(&mut heap, mailbox, 6, 2)?;
     assert_eq!(rt;
-        digits(&code_words, &mut heap, anything, mailbox, 6)?,
+        digits(alone(&code_words, anything), &mut heap, mailbox, 6)?,
         124_567
     );
     Ok(())
@@ -149,16 +146,17 @@ fn what_was_seen_is_not_looked_at_again(rt: HostRuntime) -> Result<(), Fail> {
         words: &mut code_words,
         used: 0,
     };
-    let seven = clause(&mut code, number(7))?;
+    let first = clause(&mut code, number(7))?;
+    let seven = alone(&code_words, first);
     let mut heap = Heap {
         words: &mut words,
         used: 0,
     };
-    let mailbox = filled(&mut heap, empty(), 10, 1_000)?;
-    let mailbox = passed_over(&code_words, &mut heap, seven, mailbox)?;
+    let mailbox = filled(&mut heap, Mailbox::new(), 10, 1_000)?;
+    let mailbox = passed_over(seven, &mut heap, mailbox)?;
     assert_eq!(rt; heap.used, 3_000, "two cells for each message");
     let mailbox = filled(&mut heap, mailbox, 8, 1)?;
-    let mailbox = passed_over(&code_words, &mut heap, seven, mailbox)?;
+    let mailbox = passed_over(seven, &mut heap, mailbox)?;
     assert_eq!(rt; heap.used, 3_003, "two cells for the new one only");
     assert_eq!(rt; heap.left(mailbox.seen), number(8));
     Ok(())

@@ -20,7 +20,8 @@ use Rattle.meaning.proofs.Queue.{Mem-right, Mem-split, Distinct-append, Before_l
 use Rattle.meaning.proofs.Queue.{Before-cases, Before-append, Before-mem, kept_mem}
 use Rattle.meaning.proofs.Ready.{due-could}
 use Rattle.meaning.proofs.Past.{Undisturbed, undisturbed_same, UndisturbedOrGone, Past, after_turn, after_signal}
-use Rattle.meaning.proofs.Splits.{equal_or_not, some_or_none, impossible}
+use Rattle.std.proofs.lemmas.Bool.{cases_eq}
+use Rattle.meaning.proofs.Splits.{some_or_none, impossible}
 use Rattle.meaning.proofs.Exact.{exact_served, exact_over, exact_back, exact_ticked, all_after}
 use Rattle.meaning.proofs.Times.{no_first_time, first_time_waited, tick_is}
 use Rattle.meaning.proofs.Alive.{alive_kept, alive_there}
@@ -69,7 +70,7 @@ module _ (g : Program) (s t : System) (n k : ℕ) (es new : List Entry) (i : Goo
       numbered = turn_past.numbered;
       exact = exact_served g s t n turn_could_stays es (alive t es) new (alive_kept t es) (alive_there t es) w
           i.exact.once turn_able i.exact.all k (let h = i.exact.small in omega arith) c turn_rounds;
-      timely = λ q y. side q y (equal_or_not q n);
+      timely = λ q y. side q y (cases_eq q n);
     },
   )
     where

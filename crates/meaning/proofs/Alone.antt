@@ -16,7 +16,8 @@ use Rattle.meaning.specs.Moves.{turn, settle, move}
 use Rattle.meaning.specs.Promise.{LeftAlone, Alone, AloneOrSwapped}
 use Rattle.meaning.specs.Effects.{Effect, nothing, sent, spawned, linked_gone, exited, linked, trapped, showed, named}
 use Rattle.meaning.specs.Effects.{took, Turned, turn_goes, turn_ends, turn_swaps, turn_swapped_out, turn_stuck}
-use Rattle.meaning.proofs.Splits.{cond_all, bool_all}
+use Rattle.std.proofs.lemmas.Bool.{cond_both}
+use Rattle.meaning.proofs.Splits.{bool_all}
 use Rattle.meaning.proofs.Finding.{KeepsNumber, find-change_other, find-gone_other, find-append_some}
 use Rattle.meaning.proofs.Finding.{found_after-change}
 use Rattle.meaning.proofs.Links.{add_link_keeps, Sound, reached_sound}
@@ -40,7 +41,7 @@ change_left_alone ws n f kp al q w e =
     )
 
 add_link_left_alone : (n : ℕ) (w : Worker) → LeftAlone w (add_link n w)
-add_link_left_alone n w = cond_all (LeftAlone w) (among n w.links) w (set_links (w.links ++ (n ∷ [])) w)
+add_link_left_alone n w = cond_both (among n w.links) w (set_links (w.links ++ (n ∷ [])) w) (LeftAlone w)
     (λ h. left_alone_same w) (λ h. (refl, refl, refl, ([], sym (append-nil w.mail), omega arith)))
 
 -- a change of the worker n is nothing to others

@@ -32,7 +32,8 @@ use Rattle.meaning.specs.Promise.{end_reason}
 use Rattle.meaning.specs.Effects.{From, own, other, Effect, nothing, took, spawned, showed, sent, linked, linked_gone}
 use Rattle.meaning.specs.Effects.{exited, trapped, named, Turned, turn_goes, turn_ends, turn_swaps, turn_swapped_out}
 use Rattle.meaning.specs.Effects.{turn_stuck}
-use Rattle.meaning.proofs.Splits.{cond_all, opt_all, eqb_isnt, OnSome, on_some_is, some_is}
+use Rattle.std.proofs.lemmas.Bool.{cond_both, eqb-false}
+use Rattle.meaning.proofs.Splits.{opt_all, OnSome, on_some_is, some_is}
 
 -- how many operands an operation takes
 abbrev pub Arity : Operation → ℕ → Type 0
@@ -68,11 +69,11 @@ module _ (g : Program) (k : List Frame) (s : System) (me : ℕ) (w : Scope) (o :
   acts_gives v = acts_value v nothing
 
   acts_number : (n : ℤ) → Acts (number k s n)
-  acts_number n = cond_all Acts (fits n) (gives k s (v_int n)) (error k s a_big) (λ h. acts_gives (v_int n))
+  acts_number n = cond_both (fits n) (gives k s (v_int n)) (error k s a_big) Acts (λ h. acts_gives (v_int n))
       (λ h. acts_atom_error a_big)
 
   acts_divided : (b q : ℤ) → Acts (divided k s b q)
-  acts_divided b q = cond_all Acts (is_zero b) (error k s a_zero) (number k s q) (λ h. acts_atom_error a_zero)
+  acts_divided b q = cond_both (is_zero b) (error k s a_zero) (number k s q) Acts (λ h. acts_atom_error a_zero)
       (λ h. acts_number q)
 
   acts_on_numbers : (u v : Value) (f : ℤ → ℤ → Outcome) → ((a b : ℤ) → Acts (f a b)) → Acts (on_numbers k s u v f)
@@ -104,8 +105,8 @@ module _ (g : Program) (k : List Frame) (s : System) (me : ℕ) (w : Scope) (o :
   acts_link : (v : Value) → Acts (link_to k s me v)
   acts_link v = acts_opt (as_pid v)
       (λ q. cond (eqb q me) (gives k s (v_atom a_ok)) (link_found k s me q (find s.workers q)))
-      (λ q. cond_all Acts (eqb q me) (gives k s (v_atom a_ok)) (link_found k s me q (find s.workers q))
-      (λ e. acts_gives (v_atom a_ok)) (λ e. acts_link_found q (find s.workers q) refl (eqb_isnt q me e)))
+      (λ q. cond_both (eqb q me) (gives k s (v_atom a_ok)) (link_found k s me q (find s.workers q)) Acts
+      (λ e. acts_gives (v_atom a_ok)) (λ e. acts_link_found q (find s.workers q) refl (eqb-false q me e)))
 
   acts_after_swap : (x : Name) (m : ℕ) (y : Option Worker) → find (swapped s x m).workers me ≡ y →
       current s.loaded x ≡ some m →
@@ -278,7 +279,7 @@ module _ (g : Program) (s : System) (me : Worker) where
   turned_timed_out : (u : Until) (w : Scope) → OnSome (Turned g s me) (timed_out s me.frames u w)
   turned_timed_out for_ever w = tt
   turned_timed_out (until t b) w =
-      cond_all (OnSome (Turned g s me)) (leb t s.clock) (some (goes_on (enter b w) me.frames s)) none
+      cond_both (leb t s.clock) (some (goes_on (enter b w) me.frames s)) none (OnSome (Turned g s me))
       (λ h. turn_goes (enter b w) me.frames w nothing) (λ h. tt)
 
   turned_with : (c : Control) → me.control ≡ c → OnSome (Turned g s me) (turn_with g s me c)

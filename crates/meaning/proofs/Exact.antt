@@ -12,7 +12,8 @@ use Rattle.meaning.specs.Scheduler.{Woken, Entry, round, worker, serve, flush, s
 use Rattle.meaning.specs.Scheduler.{Kept, Queues}
 use Rattle.meaning.proofs.Queue.{Mem-one, At-none, Mem-cases, Mem-behind, Mem-right, Mem-split, Distinct-append}
 use Rattle.meaning.proofs.Queue.{Mem-left, kept_from, kept_distinct, kept_mem, could_not_gone}
-use Rattle.meaning.proofs.Splits.{equal_or_not, impossible}
+use Rattle.std.proofs.lemmas.Bool.{cases_eq}
+use Rattle.meaning.proofs.Splits.{impossible}
 
 module _ (g : Program) (s t : System) (n : ℕ) (keeps' : (q : ℕ) → (q ≡ n → ⊥) → Could g s q →
     Could g t q ⊎ (find t.workers q ≡ none)) (es fs new : List Entry) (kept : Kept t es fs)
@@ -60,7 +61,7 @@ module _ (g : Program) (s t : System) (n : ℕ) (keeps' : (q : ℕ) → (q ≡ n
   exact_served k le c r = record {
     once = (own_not_queued, once_after);
     able = λ q m. a q (Mem-cases m);
-    all = λ q d. b q d (equal_or_not q n);
+    all = λ q d. b q d (cases_eq q n);
     rounds = r;
     small = le;
   }
@@ -104,7 +105,7 @@ module _ (g : Program) (s t : System) (n : ℕ) (keeps' : (q : ℕ) → (q ≡ n
   exact_back k le c r = record {
     once = at_the_end (worker n) once_after own_not_queued;
     able = λ q m. a q (before_end (worker n) (worker q) m);
-    all = λ q d. b q d (equal_or_not q n);
+    all = λ q d. b q d (cases_eq q n);
     rounds = kept_before_end (worker n) round r;
     small = le;
   }

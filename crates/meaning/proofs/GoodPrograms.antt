@@ -25,8 +25,8 @@ use Rattle.meaning.specs.Grammar.{tuple_e, brackets_e, call_e, far_e, spawn_e, s
 use Rattle.meaning.specs.Grammar.{receive_e, until_e, catch_e, ExprsOf, none_es, one_es, more_es, BodyOf, last_b}
 use Rattle.meaning.specs.Grammar.{then_b, bind_b, ClausesOf, no_cs, more_cs, FunctionOf, function_x, FunctionsOf}
 use Rattle.meaning.specs.Grammar.{no_f, more_f, ModulesOf, no_m, more_m, count, Reads}
-use Rattle.meaning.proofs.Splits.{T_of, and_T, no_clash, cond_all, opt_all, bool_all, none_some, same_is, same_refl}
-use Rattle.meaning.proofs.Splits.{OnSome, on_some_all, on_some_any}
+use Rattle.std.proofs.lemmas.Bool.{cond_both}
+use Rattle.meaning.proofs.Splits.{T_of, and_T, no_clash, opt_all, bool_all, none_some, same_is, same_refl, OnSome, on_some_all, on_some_any}
 use Rattle.meaning.proofs.Effects.{Arity}
 
 -- code that is good under the names bound
@@ -148,16 +148,15 @@ reads_good t g r = good_program r.said (and_T (has_main g) (sound_modules g) r.s
 
 pub functions_of_good : (g : Program) (x : Name) (n : ℕ) → GoodProgram g → OnSome GoodFunctions (functions_of g x n)
 functions_of_good [] x n h = tt
-functions_of_good (m ∷ g) x n h = cond_all (OnSome GoodFunctions) (same m.name x) _ _
-    (λ e. cond_all (OnSome GoodFunctions) (eqb n 1) _ _ (λ d. h.0) (λ d. functions_of_good g x _ h.1))
+functions_of_good (m ∷ g) x n h = cond_both (same m.name x) _ _ (OnSome GoodFunctions)
+    (λ e. cond_both (eqb n 1) _ _ (OnSome GoodFunctions) (λ d. h.0) (λ d. functions_of_good g x _ h.1))
     (λ e. functions_of_good g x n h.1)
 
 pub function_of_good : (fs : List Function) (x : Name) (n : ℕ) → GoodFunctions fs →
     OnSome (λ (f : Function). GoodBody f.params f.body × (length f.params ≡ n)) (function_of fs x n)
 function_of_good [] x n h = tt
 function_of_good (f ∷ fs) x n h =
-    cond_all (OnSome (λ (f : Function). GoodBody f.params f.body × (length f.params ≡ n)))
-    (same f.name x && eqb (length f.params) n) (some f) (function_of fs x n)
+    cond_both (same f.name x && eqb (length f.params) n) (some f) (function_of fs x n) (OnSome (λ (f : Function). GoodBody f.params f.body × (length f.params ≡ n)))
     (λ e. (h.0, eqb→eq (length f.params) n (and_T (same f.name x) (eqb (length f.params) n) (T_of e)).1))
     (λ e. function_of_good fs x n h.1)
 
@@ -190,14 +189,12 @@ mutual
       OnSome (λ cs. names_of cs ≡ bound_by p (names_of bs)) (match p v bs)
   match-names p_any v bs = refl
   match-names (p_var x) v bs = refl
-  match-names (p_int n) v bs = cond_all (OnSome (λ cs. names_of cs ≡ names_of bs))
-      (same_some same_int (pos n) (as_int v)) (some bs) none (λ e. refl) (λ e. tt)
-  match-names (p_atom x) v bs = cond_all (OnSome (λ cs. names_of cs ≡ names_of bs)) (same_some same x (as_atom v))
-      (some bs) none (λ e. refl) (λ e. tt)
+  match-names (p_int n) v bs = cond_both (same_some same_int (pos n) (as_int v)) (some bs) none (OnSome (λ cs. names_of cs ≡ names_of bs)) (λ e. refl) (λ e. tt)
+  match-names (p_atom x) v bs = cond_both (same_some same x (as_atom v)) (some bs) none (OnSome (λ cs. names_of cs ≡ names_of bs)) (λ e. refl) (λ e. tt)
   match-names (p_tuple ps) v bs =
       on_some_all (λ vs. Unit {0}) (λ cs. names_of cs ≡ bound_by_all ps (names_of bs)) (as_tuple v)
       (λ vs. matches ps vs bs) (on_some_any (as_tuple v)) (λ vs h. matches-names ps vs bs)
-  match-names p_nil v bs = cond_all (OnSome (λ cs. names_of cs ≡ names_of bs)) (is_nil v) (some bs) none (λ e. refl)
+  match-names p_nil v bs = cond_both (is_nil v) (some bs) none (OnSome (λ cs. names_of cs ≡ names_of bs)) (λ e. refl)
       (λ e. tt)
   match-names (p_cons a b) v bs =
       on_some_all (λ t. Unit {0}) (λ cs. names_of cs ≡ bound_by b (bound_by a (names_of bs))) (as_cons v)

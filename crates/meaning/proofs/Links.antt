@@ -19,7 +19,8 @@ use Rattle.meaning.specs.Promise.{Reached, LinksBoth}
 use Rattle.meaning.specs.Effects.{Effect, nothing, sent, spawned, linked_gone, exited, linked, trapped, showed, named}
 use Rattle.meaning.specs.Effects.{took, Turned, turn_goes, turn_ends, turn_swaps, turn_swapped_out, turn_stuck}
 use Rattle.meaning.specs.Scheduler.{Numbered}
-use Rattle.meaning.proofs.Splits.{no_clash, cond_all, bool_all, eqb_no, eqb_yes, eqb_is}
+use Rattle.std.proofs.lemmas.Bool.{cond_both, eq-eqb, eqb-true, ne_eqb}
+use Rattle.meaning.proofs.Splits.{no_clash, bool_all}
 use Rattle.meaning.proofs.Finding.{KeepsNumber, apart-change, apart-gone, apart_new, found_before-change}
 use Rattle.meaning.proofs.Finding.{gone-within, found_before_new, find_only}
 use Rattle.meaning.proofs.Results.{OnIs, turn_all, reached_all, at_first, take_signal_all, deliver_all, tick_all}
@@ -37,7 +38,7 @@ among-without l x [] h = refl
 among-without l x (y ∷ ls) h = bool_all
     (λ b. eqb x y ≡ b → among l (cond b (without x ls) (y ∷ without x ls)) ≡ (eqb l y || among l ls)) (eqb x y)
     (λ e r. among-without l x ls h
-    ∙ ap (λ (b : Bool). b || among l ls) (sym (eqb_no l y (λ q. h (q ∙ sym (eqb_is x y e))))))
+    ∙ ap (λ (b : Bool). b || among l ls) (sym (ne_eqb l y (λ q. h (q ∙ sym (eqb-true x y e))))))
     (λ e r. ap (λ (b : Bool). eqb l y || b) (among-without l x ls h)) refl
 
 pub among-gone : (x : ℕ) (ls : List ℕ) → among x (without x ls) ≡ false
@@ -49,25 +50,23 @@ among-gone x (y ∷ ls) =
 
 -- what `add_link` does to links
 pub add_link_keeps : (n : ℕ) → KeepsNumber (add_link n)
-add_link_keeps n w = cond_all (λ x. x.pid ≡ w.pid) (among n w.links) w (set_links (w.links ++ (n ∷ [])) w)
+add_link_keeps n w = cond_both (among n w.links) w (set_links (w.links ++ (n ∷ [])) w) (λ x. x.pid ≡ w.pid)
     (λ h. refl) (λ h. refl)
 
 pub add_link_in : (l n : ℕ) (w : Worker) → among l (add_link n w).links ≡ true →
     (among l w.links ≡ true) ⊎ (l ≡ n)
-add_link_in l n w = cond_all (λ x. among l x.links ≡ true → (among l w.links ≡ true) ⊎ (l ≡ n))
-    (among n w.links) w (set_links (w.links ++ (n ∷ [])) w) (λ h e. inl e)
+add_link_in l n w = cond_both (among n w.links) w (set_links (w.links ++ (n ∷ [])) w) (λ x. among l x.links ≡ true → (among l w.links ≡ true) ⊎ (l ≡ n)) (λ h e. inl e)
     (λ h e. bool_all (λ b. (b || eqb l n) ≡ true → (b ≡ true) ⊎ (l ≡ n)) (among l w.links) (λ p q. inl refl)
-    (λ p q. inr (eqb_is l n q)) (sym (among_add l n w.links) ∙ e))
+    (λ p q. inr (eqb-true l n q)) (sym (among_add l n w.links) ∙ e))
 
 pub add_link_more : (l n : ℕ) (w : Worker) → among l w.links ≡ true → among l (add_link n w).links ≡ true
 add_link_more l n w a =
-    cond_all (λ x. among l x.links ≡ true) (among n w.links) w (set_links (w.links ++ (n ∷ [])) w) (λ h. a)
+    cond_both (among n w.links) w (set_links (w.links ++ (n ∷ [])) w) (λ x. among l x.links ≡ true) (λ h. a)
     (λ h. among_add l n w.links ∙ ap (λ (b : Bool). b || eqb l n) a)
 
 pub add_link_new : (n : ℕ) (w : Worker) → among n (add_link n w).links ≡ true
-add_link_new n w = cond_all (λ x. among n x.links ≡ true) (among n w.links) w
-    (set_links (w.links ++ (n ∷ [])) w) (λ h. h)
-    (λ h. among_add n n w.links ∙ ap (λ (b : Bool). b || eqb n n) h ∙ eqb_yes n n refl)
+add_link_new n w = cond_both (among n w.links) w (set_links (w.links ++ (n ∷ [])) w) (λ x. among n x.links ≡ true) (λ h. h)
+    (λ h. among_add n n w.links ∙ ap (λ (b : Bool). b || eqb n n) h ∙ eq-eqb n n refl)
 
 -- the invariant, of the workers and the next number
 pub record SoundWorkers (ws : List Worker) (next : ℕ) : Type 0 where

@@ -25,7 +25,8 @@ use Rattle.meaning.specs.Grammar.{count}
 use Rattle.meaning.specs.Promise.{Reached, NeverStuck}
 use Rattle.meaning.specs.Effects.{From, own, other, took, Turned, turn_goes, turn_ends, turn_swaps, turn_swapped_out}
 use Rattle.meaning.specs.Effects.{turn_stuck}
-use Rattle.meaning.proofs.Splits.{cond_all, opt_all, OnSome}
+use Rattle.std.proofs.lemmas.Bool.{cond_both}
+use Rattle.meaning.proofs.Splits.{opt_all, OnSome}
 use Rattle.meaning.proofs.Effects.{Arity, perform_view, entered_is}
 use Rattle.meaning.proofs.Links.{Sound, move-sound, first_sound}
 use Rattle.meaning.proofs.OwnCode.{AsBeforeOrNew, EveryWorker, within_every, settle_every, Onward, act_onward}
@@ -160,7 +161,7 @@ module _ (g : Program) (gd : GoodProgram g) (s : System) (u : Apart s.workers) w
       OnSome Meant (timed_out s k un w)
   timed_out_meant k for_ever w h q = tt
   timed_out_meant k (until t b) w h q =
-      cond_all (OnSome Meant) (leb t s.clock) (some (goes_on (enter b w) k s)) none (λ e. (q, h, unchanged))
+      cond_both (leb t s.clock) (some (goes_on (enter b w) k s)) none (OnSome Meant) (λ e. (q, h, unchanged))
       (λ e. tt)
 
   turn_with_meant : (me : Worker) (c : Control) → GoodControl c → GoodFrames me.frames →

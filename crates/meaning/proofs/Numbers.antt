@@ -17,7 +17,8 @@ use Rattle.meaning.specs.Moves.{move, moves, on_is}
 use Rattle.meaning.specs.Promise.{FewNumbers, NamesLive}
 use Rattle.meaning.specs.Effects.{Effect, nothing, sent, spawned, linked_gone, exited, linked, trapped, showed, named}
 use Rattle.meaning.specs.Effects.{took, Turned, turn_goes, turn_ends, turn_swaps, turn_swapped_out, turn_stuck}
-use Rattle.meaning.proofs.Splits.{cond_all, some_is, none_some, eqb_isnt}
+use Rattle.std.proofs.lemmas.Bool.{cond_both, eqb-false}
+use Rattle.meaning.proofs.Splits.{some_is, none_some}
 use Rattle.meaning.proofs.Finding.{KeepsNumber, find-gone_other, find-append_some, stays_after-change}
 use Rattle.meaning.proofs.Links.{add_link_keeps}
 use Rattle.meaning.proofs.Results.{OnIs, on_is_of, turn_all, tick_all, begin_all, reached_all, deliver_all}
@@ -86,9 +87,9 @@ all_found_map ws vs (k ∷ ks) f h = (f k.pid h.0, all_found_map ws vs ks f h.1)
 all_found_gone : (ws : List Worker) (n : ℕ) (ks : List Registered) → AllFound ws ks →
     AllFound (gone ws n) (unnamed ks n)
 all_found_gone ws n [] h = tt
-all_found_gone ws n (k ∷ ks) h = cond_all (AllFound (gone ws n)) (eqb k.pid n) (unnamed ks n) (k ∷ unnamed ks n)
+all_found_gone ws n (k ∷ ks) h = cond_both (eqb k.pid n) (unnamed ks n) (k ∷ unnamed ks n) (AllFound (gone ws n))
     (λ e. all_found_gone ws n ks h.1)
-    (λ e. ((h.0.0, find-gone_other ws n k.pid (eqb_isnt k.pid n e) ∙ h.0.1), all_found_gone ws n ks h.1))
+    (λ e. ((h.0.0, find-gone_other ws n k.pid (eqb-false k.pid n e) ∙ h.0.1), all_found_gone ws n ks h.1))
 
 all_found_change : (ws : List Worker) (n : ℕ) (f : Worker → Worker) (ks : List Registered) → KeepsNumber f →
     AllFound ws ks → AllFound (change ws n f) ks
@@ -142,7 +143,7 @@ pid_of_found : (ws : List Worker) (ks : List Registered) (x : Name) (n : ℕ) �
     pid_of ks x ≡ some n → Found ws n
 pid_of_found ws [] x n h e = absurd (none_some e)
 pid_of_found ws (k ∷ ks) x n h e =
-    cond_all (λ o. o ≡ some n → Found ws n) (same k.name x) (some k.pid) (pid_of ks x)
+    cond_both (same k.name x) (some k.pid) (pid_of ks x) (λ o. o ≡ some n → Found ws n)
     (λ i d. subst (Found ws) (some_is d) h.0) (λ i d. pid_of_found ws ks x n h.1 d) e
 
 pub names_live : NamesLive

@@ -24,7 +24,8 @@ use Rattle.meaning.specs.Turns.{timed_out, turn_with, turn_of}
 use Rattle.meaning.specs.Moves.{take_signal}
 use Rattle.meaning.specs.Effects.{From, own, other, Effect, nothing, sent, spawned, linked_gone, exited, linked}
 use Rattle.meaning.specs.Effects.{trapped, showed, named, took}
-use Rattle.meaning.proofs.Splits.{or_false, OnSome, cond_all, opt_all}
+use Rattle.std.proofs.lemmas.Bool.{cond_both, or_parts}
+use Rattle.meaning.proofs.Splits.{OnSome, opt_all}
 use Rattle.meaning.proofs.Finding.{KeepsNumber, found_before-change, found_before_new, Within, gone-within}
 use Rattle.meaning.proofs.Effects.{Arity, Act, acts_value, acts_error, acts_call, acts_swap, acts_swapped_out}
 use Rattle.meaning.proofs.Effects.{acts_stuck, perform_view, entered_is}
@@ -65,8 +66,7 @@ code_before-change ws n f kp kc q x e =
 
 pub add_link_keeps_code : (n : ℕ) → KeepsCode (add_link n)
 add_link_keeps_code n w =
-    cond_all (λ (x : Worker). (x.control ≡ w.control) × (x.frames ≡ w.frames)) (among n w.links) w
-    (set_links (w.links ++ (n ∷ [])) w) (λ h. (refl, refl)) (λ h. (refl, refl))
+    cond_both (among n w.links) w (set_links (w.links ++ (n ∷ [])) w) (λ (x : Worker). (x.control ≡ w.control) × (x.frames ≡ w.frames)) (λ h. (refl, refl)) (λ h. (refl, refl))
 
 pub effect_code : (OnControl : Control → Type 0) (g : Program) (s : System) (w : Scope) (me : ℕ) (t : System) →
     ((c : Control) → From g s w c → OnControl c) → Effect g s w me t → AsBeforeOrNew OnControl s t
@@ -245,7 +245,7 @@ kept_in_frames : (Q R : Name → ℕ → Type 0) (t : Scope → Bool) →
     InFrames Q k → any_frame t k ≡ false → InFrames R k
 kept_in_frames Q R t f [] h e = tt
 kept_in_frames Q R t f (x ∷ k) h e =
-    let z = or_false (any_scope t (frame_scope x)) (any_frame t k) e in
+    let z = or_parts (any_scope t (frame_scope x)) (any_frame t k) e in
     (kept_in_scope Q R t f (frame_scope x) h.0 z.0, kept_in_frames Q R t f k h.1 z.1)
 
 pub kept_in_code : (Q R : Name → ℕ → Type 0) (t : Scope → Bool) →
@@ -253,7 +253,7 @@ pub kept_in_code : (Q R : Name → ℕ → Type 0) (t : Scope → Bool) →
     InControl Q w.control × InFrames Q w.frames → any_code t w ≡ false →
     InControl R w.control × InFrames R w.frames
 kept_in_code Q R t f w h e =
-    let z = or_false (any_scope t (control_scope w.control)) (any_frame t w.frames) e in (
+    let z = or_parts (any_scope t (control_scope w.control)) (any_frame t w.frames) e in (
       kept_in_scope Q R t f (control_scope w.control) h.0 z.0,
       kept_in_frames Q R t f w.frames h.1
           z.1,
@@ -332,7 +332,7 @@ module _ (g : Program) (s : System) (Q : Name → ℕ → Type 0)
       OnSome OnwardIn (timed_out s k un w)
   timed_out_onward k for_ever w h q = tt
   timed_out_onward k (until t b) w h q =
-      cond_all (OnSome OnwardIn) (leb t s.clock) (some (goes_on (enter b w) k s)) none (λ e. (q, h, unchanged))
+      cond_both (leb t s.clock) (some (goes_on (enter b w) k s)) none (OnSome OnwardIn) (λ e. (q, h, unchanged))
       (λ e. tt)
 
   turn_with_onward : (me : Worker) (c : Control) → InControl Q c → InFrames Q me.frames →

@@ -24,7 +24,8 @@ use Rattle.meaning.specs.Scheduler.{Numbered}
 use Rattle.meaning.proofs.Finding.{KeepsNumber, find-change_none, find-gone_none, find-change_other, find-gone_other}
 use Rattle.meaning.proofs.Finding.{find_changed, find-append_some, find-append_none, apart-change, apart-gone}
 use Rattle.meaning.proofs.Finding.{find-gone-same, apart_new, find_here, find_there}
-use Rattle.meaning.proofs.Splits.{equal_or_not, some_or_none, impossible}
+use Rattle.std.proofs.lemmas.Bool.{cases_eq}
+use Rattle.meaning.proofs.Splits.{some_or_none, impossible}
 use Rattle.meaning.proofs.Results.{OnIs, on_is_of, turn_all, deliver_all, take_signal_all}
 use Rattle.meaning.proofs.Effects.{entered_is}
 use Rattle.meaning.proofs.Swapping.{swapped_all}
@@ -149,7 +150,7 @@ module _ (n : ℕ) (s : System) (i : Numbered s) where
 
   gentle_undisturbed : (ws : List Worker) (m : ℕ) (f : Worker → Worker) → Gentle f → (q : ℕ) (w : Worker) →
       find ws q ≡ some w → UndisturbedOrGone w (find (change ws m f) q)
-  gentle_undisturbed ws m f k q w h = go (equal_or_not q m)
+  gentle_undisturbed ws m f k q w h = go (cases_eq q m)
     where
       go : (q ≡ m) ⊎ (q ≡ m → ⊥) → UndisturbedOrGone w (find (change ws m f) q)
       go (inl e) = subst (λ z. UndisturbedOrGone w (find (change ws z f) q)) e
@@ -178,7 +179,7 @@ module _ (n : ℕ) (s : System) (i : Numbered s) where
 
   gone_undisturbed : (ws : List Worker) (m : ℕ) → Apart ws → (q : ℕ) (w : Worker) → find ws q ≡ some w →
       UndisturbedOrGone w (find (gone ws m) q)
-  gone_undisturbed ws m a q w h = go (equal_or_not q m)
+  gone_undisturbed ws m a q w h = go (cases_eq q m)
     where
       go : (q ≡ m) ⊎ (q ≡ m → ⊥) → UndisturbedOrGone w (find (gone ws m) q)
       go (inl e) = subst (λ z. UndisturbedOrGone w (find (gone ws z) q)) e
@@ -229,7 +230,7 @@ module _ (n : ℕ) (s : System) (i : Numbered s) where
       newer : (q : ℕ) (x : Worker) → (q ≡ n → ⊥) → find s.workers q ≡ none →
           find (t.workers ++ (new ∷ [])) q ≡ some x →
           (find t.workers q ≡ none) ⊎ ((w : Worker) × (find t.workers q ≡ some w)) → time_of x.control ≡ none
-      newer q x d h e (inl f) = side (equal_or_not t.next q)
+      newer q x d h e (inl f) = side (cases_eq t.next q)
         where
           side : (t.next ≡ q) ⊎ (t.next ≡ q → ⊥) → time_of x.control ≡ none
           side (inl b) =

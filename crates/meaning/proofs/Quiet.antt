@@ -16,8 +16,8 @@ use Rattle.meaning.specs.Turns.{Outcome, goes_on, leaves, stuck, turn_of, can}
 use Rattle.meaning.specs.Moves.{Move, turn, signal, tick, Result, is, not_allowed, settle, take_signal, deliver}
 use Rattle.meaning.specs.Moves.{any_can, first_time, move, no_signals, quiet}
 use Rattle.meaning.specs.Promise.{QuietMeans, ClockGoes}
-use Rattle.meaning.proofs.Splits.{and_false, not_false, some_or_none, is_true, bool_all, T_of, no_clash, cond_all}
-use Rattle.meaning.proofs.Splits.{opt_all, some_is, none_some, or_false, and_true, not-true}
+use Rattle.std.proofs.lemmas.Bool.{and_cases, and_parts, cond_both, not-false, not-true, or_parts}
+use Rattle.meaning.proofs.Splits.{some_or_none, is_true, bool_all, T_of, no_clash, opt_all, some_is, none_some}
 use Rattle.meaning.proofs.Finding.{find-behind, find_here}
 use Rattle.meaning.proofs.Links.{Sound, reached_sound}
 use Rattle.meaning.proofs.NeverStuck.{GoodSystem, move_good, reached_good}
@@ -29,8 +29,8 @@ pub nobody_can : (g : Program) (s : System) (ws : List Worker) (n : ℕ) (w : Wo
     find ws n ≡ some w → can g s w ≡ false
 nobody_can g s [] n w h e = absurd (none_some e)
 nobody_can g s (v ∷ ws) n w h e =
-    let z = or_false (can g s v) (any_can g s ws) h in
-    cond_all (λ o. o ≡ some w → can g s w ≡ false) (eqb v.pid n) (some v) (find ws n)
+    let z = or_parts (can g s v) (any_can g s ws) h in
+    cond_both (eqb v.pid n) (some v) (find ws n) (λ o. o ≡ some w → can g s w ≡ false)
     (λ i d. ap (can g s) (sym (some_is d)) ∙ z.0) (λ i d. nobody_can g s ws n w z.1 d) e
 
 pub somebody_can : (g : Program) (s : System) (ws : List Worker) → Apart ws → any_can g s ws ≡ true →
@@ -62,10 +62,10 @@ quiet_no_move : (g : Program) (s : System) → quiet g s ≡ true → (m : Move)
 quiet_no_move g s h m u e = go m e
   where
     parts : (no_signals s.signals ≡ true) × ((not (any_can g s s.workers) && no_later_time s) ≡ true)
-    parts = and_true (no_signals s.signals) (not (any_can g s s.workers) && no_later_time s) h
+    parts = and_parts (no_signals s.signals) (not (any_can g s s.workers) && no_later_time s) h
 
     idle : (not (any_can g s s.workers) ≡ true) × (no_later_time s ≡ true)
-    idle = and_true (not (any_can g s s.workers)) (no_later_time s) parts.1
+    idle = and_parts (not (any_can g s s.workers)) (no_later_time s) parts.1
 
     no_delivery : (gs : List Signal) → no_signals gs ≡ true → deliver s gs ≡ is u → ⊥
     no_delivery [] i d = not_allowed_is d
@@ -74,7 +74,7 @@ quiet_no_move g s h m u e = go m e
     no_tick : (o : Option ℕ) → opt o true (λ t. leb t s.clock) ≡ true →
         opt o not_allowed (λ t. cond (ltb s.clock t) (is (with_clock s t)) not_allowed) ≡ is u → ⊥
     no_tick none i d = not_allowed_is d
-    no_tick (some t) i d = cond_all (λ r. r ≡ is u → ⊥) (ltb s.clock t) (is (with_clock s t)) not_allowed
+    no_tick (some t) i d = cond_both (ltb s.clock t) (is (with_clock s t)) not_allowed (λ r. r ≡ is u → ⊥)
         (λ j c. let y = leb→le t s.clock (T_of i) in let z = ltb→lt s.clock t (T_of j) in omega arith)
         (λ j c. not_allowed_is c) d
 
@@ -136,16 +136,16 @@ clock_moves g s h = go (some_or_none (first_time s.workers))
 pub some_move : (g : Program) → GoodProgram g → (s : System) → Sound s → GoodSystem s → quiet g s ≡ false →
     HasMove g s
 some_move g gd s sd good h = go
-    (and_false (no_signals s.signals) (not (any_can g s s.workers) && no_later_time s) h)
+    (and_cases (no_signals s.signals) (not (any_can g s s.workers) && no_later_time s) h)
   where
     idle : (not (any_can g s s.workers) ≡ false) ⊎ (no_later_time s ≡ false) → HasMove g s
-    idle (inl a) = turn_moves g gd s sd good (not_false (any_can g s s.workers) a)
+    idle (inl a) = turn_moves g gd s sd good (not-false (any_can g s s.workers) a)
     idle (inr a) = clock_moves g s a
 
     go : (no_signals s.signals ≡ false) ⊎ ((not (any_can g s s.workers) && no_later_time s) ≡ false) →
         HasMove g s
     go (inl a) = signal_moves g s a
-    go (inr a) = idle (and_false (not (any_can g s s.workers)) (no_later_time s) a)
+    go (inr a) = idle (and_cases (not (any_can g s s.workers)) (no_later_time s) a)
 
 pub quiet_means : QuietMeans
 quiet_means t g l s rd r = (quiet_no_move g s, λ no_move. is_true (quiet g s) (true_if no_move))

@@ -19,7 +19,8 @@ use Rattle.meaning.specs.Moves.{exit_message}
 use Rattle.meaning.specs.Bound.{has_main, sound_modules}
 use Rattle.meaning.specs.Promise.{Begins, Reached}
 use Rattle.meaning.specs.Effects.{Turned}
-use Rattle.meaning.proofs.Splits.{opt_all, OnSome, cond_all, and_T, same_refl, T_of}
+use Rattle.std.proofs.lemmas.Bool.{cond_both}
+use Rattle.meaning.proofs.Splits.{opt_all, OnSome, and_T, same_refl, T_of}
 use Rattle.meaning.proofs.Finding.{find_pid}
 use Rattle.meaning.proofs.Effects.{turn_view}
 
@@ -89,7 +90,7 @@ pub tick_all : (P : System → Type 0) (N : Type 0) (s : System) → ((t : ℕ) 
     OnResult P N (clock_on s)
 tick_all P N s h = opt_all (OnResult P N) (first_time s.workers) not_allowed
     (λ t. cond (ltb s.clock t) (is (with_clock s t)) not_allowed) (λ e. tt)
-    (λ t e. cond_all (OnResult P N) (ltb s.clock t) (is (with_clock s t)) not_allowed
+    (λ t e. cond_both (ltb s.clock t) (is (with_clock s t)) not_allowed (OnResult P N)
     (λ d. h t (ltb→lt s.clock t (T_of d))) (λ d. tt))
 
 -- a signal is lost, or is taken in one of three ways: as a message, as the end of a link, or as the worker's end
@@ -106,8 +107,8 @@ pub take_signal_all : (P : System → Type 0) (s : System) (g : Signal) (w : Wor
     P (on_worker (on_worker s w.pid (cut_link g.from)) g.from (cut_link w.pid)) →
     P (ended s w g.reason) → P (take_signal s g w)
 take_signal_all P s g w message link end =
-    cond_all P w.traps _ _ (λ h. message)
-    (λ h. cond_all P (same_v g.reason (v_atom a_normal)) _ (ended s w g.reason) (λ i. link) (λ i. end))
+    cond_both w.traps _ _ P (λ h. message)
+    (λ h. cond_both (same_v g.reason (v_atom a_normal)) _ (ended s w g.reason) P (λ i. link) (λ i. end))
 
 -- the first system
 abbrev pub first_worker : Control → Worker

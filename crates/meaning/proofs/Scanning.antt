@@ -16,8 +16,8 @@ use Rattle.meaning.specs.Fair.{Could}
 use Rattle.meaning.specs.Scheduler.{Woken, Numbered, Entry, worker, At, here, Mem, Distinct}
 use Rattle.meaning.proofs.Queue.{At-none, Mem-cases, Mem-behind}
 use Rattle.meaning.proofs.Finding.{find_here, find_there, find_pid, find-behind}
-use Rattle.meaning.proofs.Splits.{equal_or_not, impossible, and_true, not-true, none_some, no_clash, some_is}
-use Rattle.meaning.proofs.Splits.{bool_all, eqb_isnt, eqb_no}
+use Rattle.std.proofs.lemmas.Bool.{and_parts, cases_eq, eqb-false, ne_eqb, not-true}
+use Rattle.meaning.proofs.Splits.{impossible, none_some, no_clash, some_is, bool_all}
 
 -- those of a list that pass a test
 pub those : (Worker → Bool) → List Worker → List Entry
@@ -63,7 +63,7 @@ module _ (b : Worker → Bool) where
   those-has : (ws : List Worker) (q : ℕ) (w : Worker) → find ws q ≡ some w → b w ≡ true → Mem (worker q) (those b ws)
   unfolding those
   those-has [] q w f c = impossible (cc)
-  those-has (x ∷ ws) q w f c = side (equal_or_not x.pid q) (those-has ws q w)
+  those-has (x ∷ ws) q w f c = side (cases_eq x.pid q) (those-has ws q w)
     where
       skip : (d : Bool) → Mem (worker q) (those b ws) →
           Mem (worker q) (cond d (worker x.pid ∷ those b ws) (those b ws))
@@ -107,7 +107,7 @@ woken_time g s u i = woken_those g s.next s t (newly_can g s t) i.0 each all
     each : (q : ℕ) (w : Worker) → find s.workers q ≡ some w → newly_can g s (with_clock s u) w ≡ true →
         (q ≡ s.next → ⊥) × (can g (with_clock s u) w ≡ true) × (Could g s q → ⊥)
     each q w f h =
-        let y = and_true (not (can g s w)) (can g (with_clock s u) w) h in (
+        let y = and_parts (not (can g s w)) (can g (with_clock s u) w) h in (
           λ e. none_some (sym (i.1 q (omega arith)) ∙ f),
           y.1,
           λ c. no_clash
@@ -162,7 +162,7 @@ woken_all g n s t i = woken_those g n s t (newly_could g n s t) i.0 each all
     each q w f h =
         let p = find_pid t.workers q w f in
         let y = gains_parts (could g s w.pid) (can g t w) (eqb w.pid n) h in (
-          λ d. eqb_isnt w.pid n y.2 (p ∙ d),
+          λ d. eqb-false w.pid n y.2 (p ∙ d),
           y.1,
           λ c. no_clash (true_could g s q c)
               (ap (could g s) (sym p) ∙ y.0),
@@ -175,4 +175,4 @@ woken_all g n s t i = woken_those g n s t (newly_could g n s t) i.0 each all
         bool_all (λ b. could g s q ≡ b → Could g s q ⊎ (newly_could g n s t w ≡ true)) (could g s q)
         (λ e h. inl (could_true g s q e))
         (λ e h. inr (gains_whole (could g s w.pid) (can g t w) (eqb w.pid n) (ap (could g s) p ∙ e) c
-        (eqb_no w.pid n (λ z. d (sym p ∙ z))))) refl
+        (ne_eqb w.pid n (λ z. d (sym p ∙ z))))) refl

@@ -33,43 +33,10 @@ pub bool_all : (P : Bool → Type 0) (b : Bool) → (b ≡ true → P true) → 
 bool_all P true p q = p refl
 bool_all P false p q = q refl
 
-pub or_false : (a b : Bool) → (a || b) ≡ false → (a ≡ false) × (b ≡ false)
-or_false true b e = no_clash refl e
-or_false false b e = (refl, e)
-
 pub or_both : {a b c d : Bool} → a ≡ c → b ≡ d → (a || b) ≡ (c || d)
 or_both {a} {b} {c} {d} p q = ap (λ (x : Bool). x || b) p ∙ ap (λ (x : Bool). c || x) q
 
-pub and_true : (a b : Bool) → (a && b) ≡ true → (a ≡ true) × (b ≡ true)
-and_true true b e = (refl, e)
-and_true false b e = no_clash e refl
-
-pub and_false : (a b : Bool) → (a && b) ≡ false → (a ≡ false) ⊎ (b ≡ false)
-and_false true b e = inr e
-and_false false b e = inl refl
-
-pub not-true : (b : Bool) → not b ≡ true → b ≡ false
-not-true true e = no_clash e refl
-not-true false e = refl
-
-pub not_false : (b : Bool) → not b ≡ false → b ≡ true
-not_false true e = refl
-not_false false e = no_clash refl e
-
 -- what holds of both ways of a test holds of the test; so of an option
-pub cond_all : {A : Type 0} (P : A → Type 0) (b : Bool) (x y : A) → (b ≡ true → P x) → (b ≡ false → P y) →
-    P (cond b x y)
-cond_all P true x y p q = p refl
-cond_all P false x y p q = q refl
-
-pub cond-true : {A : Type 0} (b : Bool) (x y : A) → b ≡ true → cond b x y ≡ x
-cond-true true x y e = refl
-cond-true false x y e = no_clash e refl
-
-pub cond-false : {A : Type 0} (b : Bool) (x y : A) → b ≡ false → cond b x y ≡ y
-cond-false false x y e = refl
-cond-false true x y e = no_clash refl e
-
 pub opt_all : {A C : Type 0} (P : C → Type 0) (o : Option A) (c : C) (f : A → C) → (o ≡ none → P c) →
     ((x : A) → o ≡ some x → P (f x)) → P (opt o c f)
 opt_all P none c f p q = p refl
@@ -109,22 +76,6 @@ on_some_any none = tt
 on_some_any (some x) = tt
 
 -- numbers and names compared
-pub eqb_no : (m n : ℕ) → (m ≡ n → ⊥) → eqb m n ≡ false
-eqb_no m n h = is_false (eqb m n) (λ t. h (eqb→eq m n t))
-
-pub eqb_yes : (m n : ℕ) → m ≡ n → eqb m n ≡ true
-eqb_yes m n h = is_true (eqb m n) (subst (λ (x : ℕ). T (eqb m x)) h (eqb_refl m))
-
-pub eqb_is : (m n : ℕ) → eqb m n ≡ true → m ≡ n
-eqb_is m n h = eqb→eq m n (T_of h)
-
-pub eqb_isnt : (m n : ℕ) → eqb m n ≡ false → m ≡ n → ⊥
-eqb_isnt m n h e = no_clash (eqb_yes m n e) h
-
-pub equal_or_not : (a b : ℕ) → (a ≡ b) ⊎ (a ≡ b → ⊥)
-equal_or_not a b = bool_all (λ t. (a ≡ b) ⊎ (a ≡ b → ⊥)) (eqb a b) (λ h. inl (eqb_is a b h))
-    (λ h. inr (eqb_isnt a b h))
-
 pub same_is : (x y : Name) → T (same x y) → x ≡ y
 same_is [] [] t = refl
 same_is [] (c ∷ y) t = absurd t

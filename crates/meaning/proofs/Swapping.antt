@@ -14,8 +14,8 @@ use Rattle.meaning.specs.Values.{v_atom, Value}
 use Rattle.meaning.specs.System.{Worker, Loaded, System, find, gone, ended, current, now_loaded, old, end_old}
 use Rattle.meaning.specs.System.{with_version, Apart, swapped, Signal, among, told}
 use Rattle.meaning.specs.Promise.{ToldOf, this_one, a_later}
-use Rattle.meaning.proofs.Splits.{cond_all, cond-true, cond-false, bool_all, some_is, none_some, eqb_is, same_refl}
-use Rattle.meaning.proofs.Splits.{no_clash, is_true, is_false, equal_or_not}
+use Rattle.std.proofs.lemmas.Bool.{cases_eq, cond-false, cond-true, cond_both, eqb-true}
+use Rattle.meaning.proofs.Splits.{bool_all, some_is, none_some, same_refl, no_clash, is_true, is_false}
 use Rattle.meaning.proofs.Finding.{find-gone_other, find-gone-same, apart-gone, Within, gone-within, find-apart}
 use Rattle.meaning.proofs.Finding.{find_here, find_there}
 
@@ -24,7 +24,7 @@ pub end_old_all : (P : System → Type 0) → ((t : System) (w : Worker) → P t
 end_old_all P step [] x n s h = h
 end_old_all P step (u ∷ us) x n s h =
     end_old_all P step us x n (cond (old x n u) (ended s u (v_atom a_old)) s)
-    (cond_all P (old x n u) (ended s u (v_atom a_old)) s (λ e. step s u h) (λ e. h))
+    (cond_both (old x n u) (ended s u (v_atom a_old)) s P (λ e. step s u h) (λ e. h))
 
 pub swapped_all : (P : System → Type 0) → ((t : System) (w : Worker) → P t → P (ended t w (v_atom a_old))) →
     (s : System) (x : Name) (n : ℕ) → P (with_version s x (n + 1)) → P (swapped s x n)
@@ -50,27 +50,27 @@ swapped-within s x n a = (swapped_all (λ t. Apart t.workers × Within t.workers
 end_old_spares : (us : List Worker) (x : Name) (n : ℕ) (s : System) (q : ℕ) → Apart us →
     ((w : Worker) → find us q ≡ some w → old x n w ≡ false) → find (end_old us x n s).workers q ≡ find s.workers q
 end_old_spares [] x n s q a h = refl
-end_old_spares (u ∷ us) x n s q a h = elim (equal_or_not u.pid q) [
+end_old_spares (u ∷ us) x n s q a h = elim (cases_eq u.pid q) [
   | inl e ↦ end_old_spares us x n (cond (old x n u) (ended s u (v_atom a_old)) s) q a.1
       (λ w f. absurd (none_some (sym (find-apart u us q a e) ∙ f))) ∙ ap (λ (t : System). find t.workers q)
       (cond-false (old x n u) (ended s u (v_atom a_old)) s (h u (find_here u us q e)))
   | inr d ↦ end_old_spares us x n (cond (old x n u) (ended s u (v_atom a_old)) s) q a.1
       (λ w f. h w (find_there u us q d ∙ f))
-      ∙ cond_all (λ (t : System). find t.workers q ≡ find s.workers q) (old x n u) (ended s u (v_atom a_old)) s
+      ∙ cond_both (old x n u) (ended s u (v_atom a_old)) s (λ (t : System). find t.workers q ≡ find s.workers q)
       (λ i. find-gone_other s.workers u.pid q (λ r. d (sym r))) (λ i. refl)
 ]
 
 end_old_ends : (us : List Worker) (x : Name) (n : ℕ) (s : System) (q : ℕ) (w : Worker) → Apart us →
     Apart s.workers → find us q ≡ some w → old x n w ≡ true → find (end_old us x n s).workers q ≡ none
 end_old_ends [] x n s q w a b e o = absurd (none_some e)
-end_old_ends (u ∷ us) x n s q w a b e o = elim (equal_or_not u.pid q) [
+end_old_ends (u ∷ us) x n s q w a b e o = elim (cases_eq u.pid q) [
   | inl i ↦ let z : u ≡ w = some_is (sym (find_here u us q i) ∙ e) in
       end_old_spares us x n (cond (old x n u) (ended s u (v_atom a_old)) s) q a.1
       (λ v f. absurd (none_some (sym (find-apart u us q a i) ∙ f))) ∙ ap (λ (t : System). find t.workers q)
       (cond-true (old x n u) (ended s u (v_atom a_old)) s (ap (old x n) z ∙ o))
       ∙ subst (λ (j : ℕ). find (gone s.workers u.pid) j ≡ none) i (find-gone-same s.workers u.pid b)
   | inr d ↦ end_old_ends us x n (cond (old x n u) (ended s u (v_atom a_old)) s) q w a.1
-      (cond_all (λ (t : System). Apart t.workers) (old x n u) (ended s u (v_atom a_old)) s
+      (cond_both (old x n u) (ended s u (v_atom a_old)) s (λ (t : System). Apart t.workers)
       (λ i. apart-gone s.workers u.pid b) (λ i. b)) (sym (find_there u us q d) ∙ e) o
 ]
 
@@ -112,7 +112,7 @@ pub told_each : (p q : ℕ) (r : Value) (ls : List ℕ) → among q ls ≡ true 
 told_each p q r [] a = no_clash a refl
 told_each p q r (l ∷ ls) a =
     bool_all (λ b. eqb q l ≡ b → (b || among q ls) ≡ true → ToldOf q p r (told p r (l ∷ ls))) (eqb q l)
-    (λ h i d. subst (λ (z : ℕ). ToldOf q p r (record { to = z; from = p; reason = r } ∷ told p r ls)) (eqb_is q l h)
+    (λ h i d. subst (λ (z : ℕ). ToldOf q p r (record { to = z; from = p; reason = r } ∷ told p r ls)) (eqb-true q l h)
     this_one)
     (λ h i d. a_later (told_each p q r ls d)) refl a
 
@@ -138,10 +138,10 @@ end_old_tells (u ∷ us) x n s = bool_all (λ b. old x n u ≡ b → (gs : List 
       mine ++ r.0,
       r.1 ∙ append_assoc s.signals mine r.0,
       λ p q w e o a.
-          cond_all (λ y. y ≡ some w → ToldOf q p (v_atom a_old) (mine ++ r.0)) (eqb u.pid p) (some u) (find us p)
+          cond_both (eqb u.pid p) (some u) (find us p) (λ y. y ≡ some w → ToldOf q p (v_atom a_old) (mine ++ r.0))
           (λ c d. told_left p q (v_atom a_old) mine r.0
           (subst (λ (z : ℕ). ToldOf q p (v_atom a_old) (told z (v_atom a_old) u.links))
-          (sym (eqb_is u.pid p c)) (told_each p q (v_atom a_old) u.links
+          (sym (eqb-true u.pid p c)) (told_each p q (v_atom a_old) u.links
           (ap (λ (z : Worker). among q z.links) (some_is d) ∙ a))))
           (λ c d. told_right p q (v_atom a_old) mine r.0 (r.2 p q w d o a)) e,
     ))
@@ -149,7 +149,7 @@ end_old_tells (u ∷ us) x n s = bool_all (λ b. old x n u ≡ b → (gs : List 
       r.0,
       r.1,
       λ p q w e o a.
-          cond_all (λ y. y ≡ some w → ToldOf q p (v_atom a_old) r.0) (eqb u.pid p) (some u) (find us p)
+          cond_both (eqb u.pid p) (some u) (find us p) (λ y. y ≡ some w → ToldOf q p (v_atom a_old) r.0)
           (λ c d. no_clash o (sym (ap (old x n) (some_is d)) ∙ h)) (λ c d. r.2 p q w d o a) e,
     )) refl
 

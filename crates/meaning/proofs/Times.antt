@@ -12,15 +12,15 @@ use Rattle.meaning.specs.Syntax.{Program}
 use Rattle.meaning.specs.System.{Worker, find, Apart, System, with_clock}
 use Rattle.meaning.specs.Moves.{time_of, sooner, first_time, move, tick, is, not_allowed}
 use Rattle.meaning.proofs.Finding.{find-behind, find_here}
-use Rattle.meaning.proofs.Splits.{T_of, cond_all, bool_all, some_is, none_some, cond-true, is_true}
+use Rattle.std.proofs.lemmas.Bool.{cond-true, cond_both}
+use Rattle.meaning.proofs.Splits.{T_of, bool_all, some_is, none_some, is_true}
 
 -- the first time for which somebody waits
 pub first_time-below : (ws : List Worker) (q t : ℕ) (w : Worker) → find ws q ≡ some w →
     time_of w.control ≡ some t → (i : ℕ) × (first_time ws ≡ some i) × (i ≤ t)
 first_time-below [] q t w e d = absurd (none_some e)
 first_time-below (v ∷ ws) q t w e d =
-    cond_all (λ o. o ≡ some w → (i : ℕ) × (first_time (v ∷ ws) ≡ some i) × (i ≤ t)) (eqb v.pid q) (some v)
-    (find ws q)
+    cond_both (eqb v.pid q) (some v) (find ws q) (λ o. o ≡ some w → (i : ℕ) × (first_time (v ∷ ws) ≡ some i) × (i ≤ t))
     (λ h f. mine (first_time ws) (ap (λ (z : Worker). time_of z.control) (some_is f) ∙ d))
     (λ h f. let r = first_time-below ws q t w f d in theirs (time_of v.control) r.0 r.1 r.2) e
   where

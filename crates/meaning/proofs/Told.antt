@@ -17,7 +17,8 @@ use Rattle.meaning.specs.Turns.{Outcome}
 use Rattle.meaning.specs.Moves.{Move, turn, signal, tick, settle, deliver, move}
 use Rattle.meaning.specs.Promise.{Behind, LinkedTold, end_reason, oldest_reason, reason_of, ToldOf}
 use Rattle.meaning.specs.Effects.{Turned, turn_goes, turn_ends, turn_swaps, turn_swapped_out, turn_stuck}
-use Rattle.meaning.proofs.Splits.{cond_all, cond-true, bool_all, some_is, none_some, eqb_yes, eqb_is, eqb_isnt}
+use Rattle.std.proofs.lemmas.Bool.{cond-true, cond_both, eq-eqb, eqb-false, eqb-true}
+use Rattle.meaning.proofs.Splits.{bool_all, some_is, none_some}
 use Rattle.meaning.proofs.Finding.{find_pid, find-gone_other, stays_after-change, change_ends_nobody}
 use Rattle.meaning.proofs.Links.{Sound, reached_sound}
 use Rattle.meaning.proofs.Results.{OnIs, on_is_of, turn_all, deliver_all, take_signal_all, tick_all}
@@ -47,7 +48,7 @@ end_told : (s : System) (me : Worker) (r : Value) (p q : ℕ) (w : Worker) (hs :
 end_told s me r p q w hs sg fm fp a gn =
     bool_all (λ b. (gs : List Signal) × (s.signals ++ told me.pid r me.links ≡ hs ++ gs) × ToldOf q p r gs
     × (me ≡ w)) (eqb p me.pid)
-    (λ h. let i = eqb_is p me.pid h in
+    (λ h. let i = eqb-true p me.pid h in
     let z : me ≡ w = some_is (sym fm ∙ subst (λ (j : ℕ). find s.workers j ≡ some w) i fp) in (
       told me.pid r me.links,
       ap (λ (y : List Signal). y ++ told me.pid r me.links) sg,
@@ -55,16 +56,16 @@ end_told s me r p q w hs sg fm fp a gn =
           (told_each p q r me.links (ap (λ (y : Worker). among q y.links) z ∙ a)),
       z,
     ))
-    (λ h. absurd (none_some (sym gn ∙ find-gone_other s.workers me.pid p (eqb_isnt p me.pid h) ∙ fp)))
+    (λ h. absurd (none_some (sym gn ∙ find-gone_other s.workers me.pid p (eqb-false p me.pid h) ∙ fp)))
 
 -- a swap ends with 'old, whoever's turn it was
 swap_reason : (s : System) (n p : ℕ) (me w : Worker) → me.pid ≡ n → find s.workers me.pid ≡ some me →
     find s.workers p ≡ some w → end_reason me.control me.frames ≡ v_atom a_old →
     reason_of s (turn n) w ≡ v_atom a_old
 swap_reason s n p me w pn fm fp wo =
-    cond_all (λ (y : Value). y ≡ v_atom a_old) (eqb n w.pid) (end_reason w.control w.frames) (v_atom a_old)
+    cond_both (eqb n w.pid) (end_reason w.control w.frames) (v_atom a_old) (λ (y : Value). y ≡ v_atom a_old)
     (λ h. let z : me ≡ w = some_is (sym fm ∙ subst (λ (j : ℕ). find s.workers j ≡ some w)
-    (sym (find_pid s.workers p w fp) ∙ sym (eqb_is n w.pid h) ∙ sym pn) fp) in
+    (sym (find_pid s.workers p w fp) ∙ sym (eqb-true n w.pid h) ∙ sym pn) fp) in
     subst (λ (v : Worker). end_reason v.control v.frames ≡ v_atom a_old) z wo) (λ h. refl)
 
 turned-told : (g : Program) (s : System) (n p q : ℕ) (w me : Worker) (o : Outcome) → Sound s → me.pid ≡ n →
@@ -77,7 +78,7 @@ turned-told g s n p q w me o sd pn fm e a (turn_ends r why) = λ gn.
     let z = end_told s me r p q w s.signals refl fm e a gn in
     let same_end : reason_of s (turn n) w ≡ r =
     cond-true (eqb n w.pid) (end_reason w.control w.frames) (v_atom a_old)
-    (eqb_yes n w.pid (sym pn ∙ ap (λ (v : Worker). v.pid) z.3))
+    (eq-eqb n w.pid (sym pn ∙ ap (λ (v : Worker). v.pid) z.3))
     ∙ sym (ap (λ (v : Worker). end_reason v.control v.frames) z.3) ∙ sym why in
     (z.0, (s.signals, z.1, inl refl), subst (λ (y : Value). ToldOf q p y z.0) (sym same_end) z.2)
 turned-told g s n p q w me o sd pn fm e a (turn_swaps c k x m y d f wo) =

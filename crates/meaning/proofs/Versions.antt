@@ -23,8 +23,8 @@ use Rattle.meaning.specs.Effects.{Turned, turn_goes, turn_ends, turn_swaps, turn
 use Rattle.meaning.proofs.OwnCode.{any_scope, any_frame, any_code, control_scope, frame_scope, none_in_code}
 use Rattle.meaning.proofs.OwnCode.{kept_in_code, EveryWorker, within_every, settle_every, signal_every, Onward}
 use Rattle.meaning.proofs.OwnCode.{InControl, InFrames, entered_in, turn_onward}
-use Rattle.meaning.proofs.Splits.{or_both, T_of, is_false, no_clash, cond_all, opt_all, cond-false, bool_all, some_is}
-use Rattle.meaning.proofs.Splits.{none_some, same_is, same_refl, OnSome, same_and_false}
+use Rattle.std.proofs.lemmas.Bool.{cond-false, cond_both}
+use Rattle.meaning.proofs.Splits.{or_both, T_of, is_false, no_clash, opt_all, bool_all, some_is, none_some, same_is, same_refl, OnSome, same_and_false}
 use Rattle.meaning.proofs.Links.{Sound, move-sound, first_sound}
 use Rattle.meaning.proofs.Finding.{gone-within, find_only}
 use Rattle.meaning.proofs.Results.{OnIs, turn_all, tick_all, at_first, reached_all, deliver_all, take_signal_all}
@@ -198,7 +198,7 @@ ones_first_versions (m ∷ g) ls h =
 ones_current : (ls : List Loaded) (x : Name) (n : ℕ) → Ones ls → current ls x ≡ some n → n ≡ 1
 ones_current [] x n h e = absurd (none_some e)
 ones_current (l ∷ ls) x n h e =
-    cond_all (λ o. o ≡ some n → n ≡ 1) (same l.name x) (some l.version) (current ls x)
+    cond_both (same l.name x) (some l.version) (current ls x) (λ o. o ≡ some n → n ≡ 1)
     (λ i d. sym (some_is d) ∙ h.0) (λ i d. ones_current ls x n h.1 d) e
 
 first_spans : (g : Program) (c : Control) → enter_function g (first_name g) 1 a_main [] ≡ some c →

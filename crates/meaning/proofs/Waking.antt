@@ -19,7 +19,8 @@ use Rattle.meaning.proofs.Queue.{Mem-one, Mem-behind, could_not_gone, At-none}
 use Rattle.meaning.proofs.Finding.{find_here, find_there, KeepsNumber, find-change_other, find_changed}
 use Rattle.meaning.proofs.Finding.{find-append_some, find-append_none, find-gone_other, change_ends_nobody}
 use Rattle.meaning.proofs.Ready.{can_is, ready, due, has, keep_front-has, can-same}
-use Rattle.meaning.proofs.Splits.{equal_or_not, some_or_none, impossible, none_some, no_clash}
+use Rattle.std.proofs.lemmas.Bool.{cases_eq}
+use Rattle.meaning.proofs.Splits.{some_or_none, impossible, none_some, no_clash}
 use Rattle.meaning.proofs.Alive.{alive-same}
 
 -- who became able: nobody else, or one
@@ -32,7 +33,7 @@ pub woken_one : (g : Program) (n : ℕ) (s t : System) (p : ℕ) → (p ≡ n �
 woken_one g n s t p d c f h = record {
   once = ((λ m. At-none m.1), tt);
   each = λ x m. (p, Mem-one m, d, c, f);
-  all = λ q e b. all q e b (equal_or_not q p);
+  all = λ q e b. all q e b (cases_eq q p);
 }
   where
     all : (q : ℕ) → (q ≡ n → ⊥) → Could g t q → (q ≡ p) ⊎ (q ≡ p → ⊥) → Could g s q ⊎ Mem (worker q) (worker p ∷ [])
@@ -79,7 +80,7 @@ module _ (g : Program) (n : ℕ) (s : System) (p : ℕ) (v : Value) (f : Worker 
 
   pub woken_by_no_message : (p ≡ n) ⊎ (Could g (sent_and_changed s n p v f) p → Could g s p) →
       Woken g n s (sent_and_changed s n p v f) []
-  woken_by_no_message o = woken_none g n s (sent_and_changed s n p v f) (λ q d c. go q d c o (equal_or_not q p))
+  woken_by_no_message o = woken_none g n s (sent_and_changed s n p v f) (λ q d c. go q d c o (cases_eq q p))
     where
       go : (q : ℕ) → (q ≡ n → ⊥) → Could g (sent_and_changed s n p v f) q →
           (p ≡ n) ⊎ (Could g (sent_and_changed s n p v f) p → Could g s p) → (q ≡ p) ⊎ (q ≡ p → ⊥) → Could g s q

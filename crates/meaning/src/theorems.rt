@@ -3,92 +3,66 @@
 ghost use Rattle.meaning.specs.Promise.{Begins, NeverStuck, Alone, LinkedTold, LinksBoth, TwoVersions, NoneAhead, CanStays, NewlyAble, ClockGoes, QuietMeans, FewNumbers, NamesLive};
 
 /// A text that is a program begins.
-pub fn begins() -> u8
+pub fn begins()
     ensures { Begins }
-{
-    0
-}
+{}
 
 /// In no order of moves does a program come to where nothing is meant.
-pub fn never_stuck() -> u8
+pub fn never_stuck()
     ensures { NeverStuck }
-{
-    0
-}
+{}
 
 /// A turn leaves another worker as it is, but for at most one message and links, unless it swapped a module.
-pub fn alone() -> u8
+pub fn alone()
     ensures { Alone }
-{
-    0
-}
+{}
 
 /// Whoever is linked to a worker that ends is told its very reason, behind all signals that were there.
-pub fn linked_told() -> u8
+pub fn linked_told()
     ensures { LinkedTold }
-{
-    0
-}
+{}
 
 /// Of two workers, one is linked to the other as the other to it.
-pub fn links_both() -> u8
+pub fn links_both()
     ensures { LinksBoth }
-{
-    0
-}
+{}
 
 /// Of each module at most the current version and the one before it are at work.
-pub fn two_versions() -> u8
+pub fn two_versions()
     ensures { TwoVersions }
-{
-    0
-}
+{}
 
 /// No code is at work in a version ahead of the current one.
-pub fn none_ahead() -> u8
+pub fn none_ahead()
     ensures { NoneAhead }
-{
-    0
-}
+{}
 
 /// Who can take a turn still can after any move but its own, or is no more.
-pub fn can_stays() -> u8
+pub fn can_stays()
     ensures { CanStays }
-{
-    0
-}
+{}
 
 /// Who can go on after another's turn could before, is new, or got one message.
-pub fn newly_able() -> u8
+pub fn newly_able()
     ensures { NewlyAble }
-{
-    0
-}
+{}
 
 /// Where somebody waits and nobody's time has come, the clock can go on.
-pub fn clock_goes() -> u8
+pub fn clock_goes()
     ensures { ClockGoes }
-{
-    0
-}
+{}
 
 /// A system is quiet exactly when no move can be made.
-pub fn quiet_means() -> u8
+pub fn quiet_means()
     ensures { QuietMeans }
-{
-    0
-}
+{}
 
 /// The next worker's number is at most one more than the moves made.
-pub fn few_numbers() -> u8
+pub fn few_numbers()
     ensures { FewNumbers }
-{
-    0
-}
+{}
 
 /// A name means somebody who is there.
-pub fn names_live() -> u8
+pub fn names_live()
     ensures { NamesLive }
-{
-    0
-}
+{}

@@ -1,13 +1,13 @@
 -- Entering names. A new name is written behind the spans of the others and goes to the head of its bucket; no other
 -- bucket changes. So the words hold the table with the name at its end, token by token, until all words are in it.
-use Rattle.std.proofs.Common.{◌≡◌, ℕ, zero, suc, ◌+◌, ◌-◌, ◌^◌, ◌<◌, ◌≤◌, true, false, cond, eqb, ltb, ◌⊎◌, List, [], ◌∷◌, ◌++◌, length, get_or, take, drop, None, Option, sym, refl, ap, ◌∙◌, subst, inl, inr, append_assoc, add-zero, zero-add, add-one, arith}
+use Rattle.std.proofs.Common.{◌≡◌, ℕ, zero, suc, ◌+◌, ◌-◌, ◌<◌, ◌≤◌, true, false, cond, eqb, ltb, ◌⊎◌, List, [], ◌∷◌, ◌++◌, length, get_or, take, drop, Some, None, Option, is_some, MutBor, sym, refl, ap, ◌∙◌, subst, inl, inr, append_assoc, add-zero, zero-add, add-one, arith}
 use Rattle.std.proofs.lemmas.List.{length-append, length-take-le, take_more, take_all, take_at, drop_at}
-use Rattle.std.proofs.lemmas.Bool.{cases_Bool, cond-true, cond-false, eqb-true, eqb-false, lt-ltb, le-ltb}
+use Rattle.std.proofs.lemmas.Bool.{false≢true, cases_Bool, cond-true, cond-false, eqb-true, eqb-false, lt-ltb, le-ltb}
 use Rattle.meaning.specs.Basics.{Name}
 use Rattle.meaning.specs.Grammar.{is_atom}
 use Rattle.meaning.specs.Tokens.{gap, tokens}
 use Rattle.meaning.proofs.Splits.{T_of, same_is, same_refl}
-use Rattle.store.specs.Heap.{Store, Den, Put}
+use Rattle.store.specs.Heap.{Store, stored, Den, Put}
 use Rattle.store.specs.Slots.{slot_at, place_of, Wrote}
 use Rattle.store.specs.declared.slot.Slot.{Slot}
 use Rattle.store.proofs.Laws.{leaf_stands, keeps}
@@ -18,7 +18,9 @@ use Rattle.values.specs.declared.value.Atom.{Atom}
 use Rattle.names.specs.Names.{own_atoms, with_word, with_words, names_of, Distinct}
 use Rattle.names.specs.Buckets.{hash_of, bucket_from, bucket, atoms}
 use Rattle.names.specs.Table.{spelled, table, Chained, Table, Numbered, Finds}
-use Rattle.names.specs.Collect.{Lacking, Entered, WordEntered, WordLacks}
+use Rattle.names.specs.Collect.{Lacking, SameWords, Stays, Holds, Entered, WordEntered, WordLacks, WordsLack, Collected}
+use Rattle.names.specs.declared.collect.Collector.{Collector}
+use Rattle.store.proofs.Growth.{grows_on}
 use Rattle.names.proofs.Naming.{distinct_push, own_distinct, own-length, added, grown_words}
 use Rattle.names.proofs.Spelling.{length-table}
 
@@ -40,6 +42,19 @@ lacking_more spans spans' buckets buckets' words words' names cells names' cells
     inr (inr (inl (omega (arith, w, h, r))))
 lacking_more spans spans' buckets buckets' words words' names cells names' cells' p q r g h (inr (inr (inr n))) =
     inr (inr (inr (omega (arith, n, g))))
+
+same_trans : {b₀ b₁ b₂ : MutBor (List ℕ)} → SameWords b₀ b₁ → SameWords b₁ b₂ → SameWords b₀ b₂
+same_trans g h = record { lent = h.lent ∙ g.lent; long = h.long ∙ g.long }
+
+pub stays_trans : {c₀ c₁ c₂ : Collector} → Stays c₀ c₁ → Stays c₁ c₂ → Stays c₀ c₂
+stays_trans g h =
+    record {
+      text = h.text ∙ g.text;
+      spans = same_trans g.spans h.spans;
+      buckets = same_trans g.buckets h.buckets;
+      heap = h.heap ∙ g.heap;
+      grows = grows_on g.grows h.grows;
+    }
 
 -- the names of spans that are written behind them stay
 pub table_kept : (text spans spans' : List ℕ) (count : ℕ) → ((i : ℕ) → i < count → slot_at spans' i ≡ slot_at spans i)
@@ -100,18 +115,14 @@ module _ {spans spans' : List ℕ} {count : ℕ} {buckets buckets' : List ℕ} {
           (hash_of w) k) _ _ e))
           (subst (λ (q : Slot). Den m' q (atoms (bucket k ns))) (sym other) (keeps put.kept (c.chain k h)))
 
-  pub entered : count < 2 ^ 32 → Entered spans spans' count buckets buckets' m m' span w
-  entered small =
+  pub table_pushed : {text : List ℕ} {ns : List Name} → Table text spans count buckets m ns
+      → spelled text count span ≡ w → (Known ns w → ⊥) → Table text spans' (count + 1) buckets' m' (ns ++ (w ∷ []))
+  table_pushed {text} {ns} t spells new =
       record {
-        stands = λ {text} {ns} t spells new.
-            record {
-              names = table_more text spans spans' count span written
-                  ∙ (ap (λ l. l ++ (spelled text count span ∷ [])) t.names ∙ ap (λ x. ns ++ (x ∷ [])) spells);
-              distinct = distinct_push ns w t.distinct new;
-              chained = chained_more ns (table_long t) t.chained;
-            };
-        used = put.count;
-        small = small;
+        names = table_more text spans spans' count span written
+            ∙ (ap (λ l. l ++ (spelled text count span ∷ [])) t.names ∙ ap (λ x. ns ++ (x ∷ [])) spells);
+        distinct = distinct_push ns w t.distinct new;
+        chained = chained_more ns (table_long t) t.chained;
       }
 
 -- the atoms of the language, one by one
@@ -127,61 +138,57 @@ distinct_at (x ∷ xs) (suc i) h d (inl e) =
     d.0 (subst (Known xs) (sym (same_is x (get_or xs i []) (T_of e))) (known_at xs i (omega (arith, h))))
 distinct_at (x ∷ xs) (suc i) h d (inr k) = distinct_at xs i (omega (arith, h)) d.1 k
 
-pub own_more : {text spans spans' : List ℕ} {i : ℕ} {buckets buckets' : List ℕ} {m m' : Store} {span : Slot} {w : Name} → i < 16
-    → w ≡ get_or own_atoms i [] → Entered spans spans' i buckets buckets' m m' span w → Table text spans i buckets m
-    (take i own_atoms)
-    → Table text spans' (i + 1) buckets' m' (take (i + 1) own_atoms)
-own_more {text} {spans} {spans'} {i} {buckets} {buckets'} {m} {m'} {span} {w} below is e t =
+pub own_more : {c c' : Collector} {i : ℕ} {span : Slot} {w : Name} → i < 16 → c.count ≡ i
+    → w ≡ get_or own_atoms i [] → Entered c c' span w → Holds c (take i own_atoms) → Holds c' (take (i + 1) own_atoms)
+own_more {c} {c'} {i} {span} {w} below at is e t =
     let within : i < length own_atoms = omega (arith, below, own-length) in
-    let spells : spelled text i span ≡ w = cond-true (ltb i 16) (get_or own_atoms i []) _ (lt-ltb i 16 below) ∙ sym is in
+    let own : ltb c.count 16 ≡ true = lt-ltb c.count 16 (omega (arith, below, at)) in
+    let spells : spelled c.text.now c.count span ≡ w =
+    cond-true (ltb c.count 16) (get_or own_atoms c.count []) _ own ∙ (ap (λ k. get_or own_atoms k []) at ∙ sym is) in
     let longer : take i own_atoms ++ (w ∷ []) ≡ take (i + 1) own_atoms =
     ap (λ x. take i own_atoms ++ (x ∷ [])) is ∙ sym (take_more own_atoms i [] within) in
-    subst (λ l. Table text spans' (i + 1) buckets' m' l) longer
+    subst (λ l. Holds c' l) longer
     (e.stands t spells (λ k. distinct_at own_atoms i within own_distinct (subst (Known (take i own_atoms)) is k)))
 
-pub own_ends : {text spans : List ℕ} {i : ℕ} {buckets : List ℕ} {m : Store} → i ≡ 16 → Table text spans i buckets m
-    (take i own_atoms)
-    → Table text spans 16 buckets m own_atoms
-own_ends {text} {spans} {i} {buckets} {m} is t =
-    subst (λ l. Table text spans 16 buckets m l) (take_all 16 own_atoms (omega (arith, own-length)))
-    (subst (λ k. Table text spans k buckets m (take k own_atoms)) is t)
+pub own_ends : (c : Collector) (i : ℕ) → i ≡ 16 → Holds c (take i own_atoms) → Holds c own_atoms
+own_ends c i is t = subst (λ l. Holds c l) (take_all i own_atoms (omega (arith, own-length))) t
 
 -- a word that leaves the names as they are
-pub word_left : {text spans : List ℕ} {count : ℕ} {buckets : List ℕ} {m : Store} {from : ℕ} {w : Name}
-    → ((ns : List Name) → Table text spans count buckets m ns → with_word ns w ≡ ns)
-    → WordEntered text spans spans count count buckets buckets m m from w
-word_left {text} {spans} {count} {buckets} {m} left =
-    record {
-      stands = λ {ns} big here t. subst (λ l. Table text spans count buckets m l) (sym (left ns t)) t;
-      used = refl;
-      more = omega arith;
-    }
+pub word_left : {c : Collector} {from : ℕ} {w : Name} → ((ns : List Name) → Holds c ns → with_word ns w ≡ ns)
+    → WordEntered c c from w
+word_left {c} left =
+    record { stands = λ {ns} big here t. subst (λ l. Holds c l) (sym (left ns t)) t; used = refl; more = omega arith }
+
+pub found_known : (ns : List Name) (w : Name) (r : Option Atom) → true ≡ is_some r → Numbered ns w r → Known ns w
+found_known ns w None e k = absurd (false≢true (sym e))
+found_known ns w (Some a) e k = k.0
+
+found_new : (ns : List Name) (w : Name) (r : Option Atom) → false ≡ is_some r → Numbered ns w r → Known ns w → ⊥
+found_new ns w None e k = k
+found_new ns w (Some a) e k = absurd (false≢true e)
 
 -- a word that is new
-module _ {text spans : List ℕ} {count : ℕ} {buckets : List ℕ} {m : Store} {w : Name} {r : Option Atom}
-    (atom : is_atom w ≡ true)
-    (found : Finds text spans count buckets m w r) (none : r ≡ None) where
-  new_word : {ns : List Name} → Table text spans count buckets m ns → Known ns w → ⊥
-  new_word {ns} t k = subst (Numbered ns w) none (found.number t) k
+module _ (c : Collector) {w : Name} {r : Option Atom} (atom : is_atom w ≡ true)
+    (found : Finds c.text.now c.spans.now c.count c.buckets.now (stored c.heap.now) w r) (none : false ≡ is_some r) where
+  new_word : {ns : List Name} → Holds c ns → Known ns w → ⊥
+  new_word {ns} t = found_new ns w r none (found.number t)
 
-  pub word_added : {ns : List Name} → Table text spans count buckets m ns → with_word ns w ≡ ns ++ (w ∷ [])
+  pub word_added : {ns : List Name} → Holds c ns → with_word ns w ≡ ns ++ (w ∷ [])
   word_added {ns} t = (added ns w atom (new_word t)).is
 
-  pub word_entered : {spans' buckets' : List ℕ} {m' : Store} {span : Slot} {from : ℕ} → span.kind ≡ length w
-      → place_of span ≡ from
-      → Entered spans spans' count buckets buckets' m m' span w
-      → WordEntered text spans spans' count (count + 1) buckets buckets' m m' from w
-  word_entered {spans'} {buckets'} {m'} {span} {from} long place e =
+  pub word_entered : {c' : Collector} {span : Slot} {from : ℕ} → span.kind ≡ length w → place_of span ≡ from
+      → Entered c c' span w → WordEntered c c' from w
+  word_entered {c'} {span} {from} long place e =
       record {
         stands = λ {ns} big here t.
-            let spells : spelled text count span ≡ w =
-            cond-false (ltb count 16) (get_or own_atoms count []) _ (le-ltb count 16 big)
-            ∙ (ap (λ n. take n (drop (place_of span) text)) long ∙ (ap (λ n. take (length w) (drop n text)) place
+            let spells : spelled c.text.now c.count span ≡ w =
+            cond-false (ltb c.count 16) (get_or own_atoms c.count []) _ (le-ltb c.count 16 big)
+            ∙ (ap (λ n. take n (drop (place_of span) c.text.now)) long ∙ (ap (λ n. take (length w)
+            (drop n c.text.now)) place
             ∙ here)) in
-            subst (λ l. Table text spans' (count + 1) buckets' m' l) (sym (word_added t)) (e.stands t spells
-            (new_word t));
-        used = omega (arith, e.used);
-        more = omega arith;
+            subst (λ l. Holds c' l) (sym (word_added t)) (e.stands t spells (new_word t));
+        used = omega (arith, e.used, e.count);
+        more = omega (arith, e.count);
       }
 
 -- the text that is still to be read is the end of the text
@@ -190,20 +197,10 @@ pub record Behind (text rest : List ℕ) : Type 0 where
   pub is : text ≡ front ++ rest
 
 -- the words hold the names so far, and the tokens that are still to come make them all names of the text
-pub record Entering (text rest spans : List ℕ) (count : ℕ) (buckets : List ℕ) (m : Store) : Type 0 where
+pub record Entering (c : Collector) (rest : List ℕ) : Type 0 where
   pub names : List Name
-  pub stands : Table text spans count buckets m names
-  pub ends : with_words names (tokens gap rest) ≡ names_of text
-
-pub behind_start : (text : List ℕ) → Behind text text
-behind_start text = record { front = []; is = refl }
-
-pub behind-length : {text rest : List ℕ} → Behind text rest → length rest ≤ length text
-behind-length {text} {rest} b = omega (arith, ap length b.is, length-append b.front rest)
-
-pub entering_start : {text spans buckets : List ℕ} {m : Store} → Table text spans 16 buckets m own_atoms
-    → Entering text text spans 16 buckets m
-entering_start t = record { names = own_atoms; stands = t; ends = refl }
+  pub stands : Holds c names
+  pub ends : with_words names (tokens gap rest) ≡ names_of c.text.now
 
 module _ {text rest : List ℕ} (l : Lexeme) (b : Behind text rest) (first : First rest l) where
   before : List ℕ
@@ -238,23 +235,22 @@ module _ {text rest : List ℕ} (l : Lexeme) (b : Behind text rest) (first : Fir
       ∙ (ap (take (length (spelling l.token))) (drop_at before (spelling l.token ++ l.rest.now) _ before_long)
       ∙ take_at (spelling l.token) l.rest.now (length (spelling l.token)) refl)
 
-  pub entering_more : {spans spans' : List ℕ} {count count' : ℕ} {buckets buckets' : List ℕ} {m m' : Store} → 16 ≤ count
-      → WordEntered text spans spans' count count' buckets buckets' m m' (length text - length rest + l.skipped)
-      (spelling l.token)
-      → Entering text rest spans count buckets m → Entering text l.rest.now spans' count' buckets' m'
-  entering_more big e g =
+  pub entering_more : {c c' : Collector} → c.text.now ≡ text → c'.text.now ≡ text → 16 ≤ c.count
+      → WordEntered c c' (length text - length rest + l.skipped) (spelling l.token)
+      → Entering c rest → Entering c' l.rest.now
+  entering_more {c} {c'} is is' big e g =
       record {
         names = with_word g.names (spelling l.token);
-        stands = e.stands big token_here g.stands;
-        ends = sym (ap (with_words g.names) first.cut) ∙ g.ends;
+        stands = e.stands big (ap (λ t. take (length (spelling l.token)) (drop
+            (length text - length rest + l.skipped) t)) is ∙ token_here) g.stands;
+        ends = sym (ap (with_words g.names) first.cut) ∙ (g.ends ∙ ap names_of (is ∙ sym is'));
       }
 
   -- a word for which there is no room is a name of the text
-  pub entering_lacks : {spans : List ℕ} {count : ℕ} {buckets : List ℕ} {m : Store}
-      → WordLacks text spans count buckets m (spelling l.token)
-      → Entering text rest spans count buckets m → count + 1 ≤ length (names_of text)
-  entering_lacks {spans} {count} lacks g =
-      let all : with_words (with_word g.names (spelling l.token)) (tokens gap l.rest.now) ≡ names_of text =
+  pub entering_lacks : {c : Collector} → WordLacks c (spelling l.token) → Entering c rest
+      → c.count + 1 ≤ length (names_of c.text.now)
+  entering_lacks {c} lacks g =
+      let all : with_words (with_word g.names (spelling l.token)) (tokens gap l.rest.now) ≡ names_of c.text.now =
       sym (ap (with_words g.names) first.cut) ∙ g.ends in
       let grown = grown_words (with_word g.names (spelling l.token)) (tokens gap l.rest.now) in
       omega (
@@ -267,8 +263,27 @@ module _ {text rest : List ℕ} (l : Lexeme) (b : Behind text rest) (first : Fir
         table_long g.stands,
       )
 
-pub entering_end : {text rest spans : List ℕ} {count : ℕ} {buckets : List ℕ} {m : Store} → tokens gap rest ≡ []
-    → Entering text rest spans count buckets m
-    → Table text spans count buckets m (names_of text)
-entering_end {text} {rest} {spans} {count} {buckets} {m} none g =
-    subst (λ l. Table text spans count buckets m l) (sym (ap (with_words g.names) none) ∙ g.ends) g.stands
+  -- so there is no room for them all
+  pub words_lack : {c₀ c : Collector} → Stays c₀ c → c.heap.now.used + c₀.count ≡ c₀.heap.now.used + c.count
+      → (Holds c₀ own_atoms → Entering c rest) → WordLacks c (spelling l.token) → WordsLack c₀
+  words_lack {c₀} {c} stays used entering lacks =
+      record {
+        short = λ start t begun.
+            let more = rw stays.text at (entering_lacks lacks (entering t)) in
+            lacking_more c₀.spans.now c.spans.now c₀.buckets.now c.buckets.now c₀.heap.now.words.now
+            c.heap.now.words.now (c.count + 1) (c.heap.now.used + 1) (length (names_of c₀.text.now))
+            (start + length (names_of c₀.text.now)) stays.spans.long stays.buckets.long stays.grows.long more
+            (omega (arith, more, used, begun, table_long t, own-length)) lacks.short;
+      }
+
+-- the table that the collector's words hold is that of the words that were lent
+pub collected : (c : Collector) {text spans buckets : List ℕ} {m m' : Store} → c.text.now ≡ text → spans ≡ c.spans.now
+    → buckets ≡ c.buckets.now → m' ≡ stored c.heap.now → c.heap.now.used ≡ m.used + c.count → Holds c (names_of text)
+    → Collected text spans c.count buckets m m'
+collected c {text} {spans} {buckets} {m} {m'} is s b h used t =
+    record {
+      count_is = sym (table_long t);
+      stands = rw (s, b, h) (subst (λ x. Table x c.spans.now c.count c.buckets.now (stored c.heap.now)
+          (names_of text)) is t);
+      used = ap (λ (n : Store). n.used) h ∙ used;
+    }

@@ -42,15 +42,6 @@ module _ {ns : List Name} {m : Store} {w : Name} where
       way [] d e = e
       way (i ∷ is) d e = absurd (omega (arith, node_is d, k))
 
-  pub walking_short : {s : Slot} {steps : ℕ} (numbers : List ℕ) → m.used ≤ steps → Walking ns m s w steps numbers
-      → None ≡ first_of ns w numbers
-  walking_short {s} {steps} numbers k g = way g.rest g.same_first g.short
-    where
-      way : (rest : List ℕ) → first_of ns w rest ≡ first_of ns w numbers → steps + length rest ≤ m.used
-          → None ≡ first_of ns w numbers
-      way [] e h = e
-      way (i ∷ is) e h = absurd (omega (arith, h, k))
-
   -- the number at hand is the word's
   pub walking_found : {s : Slot} {steps : ℕ} (numbers : List ℕ) (left : Slot) (a : Atom) (x : Name) → 16 ≤ s.kind
       → left ≡ left_of m.words s

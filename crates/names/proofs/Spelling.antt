@@ -1,26 +1,10 @@
 -- The names that spans stand for, one by one: the name of number i is what the slot i of the spans spells.
-use Rattle.std.proofs.Common.{◌≡◌, ℕ, zero, suc, ◌-◌, ◌<◌, ◌≤◌, ltb, List, [], ◌∷◌, length, get_or, take, drop, sym, refl, ap, ◌∙◌, inl, inr, arith}
-use Rattle.std.proofs.lemmas.List.{get_or_append_left, get_or_push, get_or_past, length_push, length-drop, take_all, take_rest, drop_all}
+use Rattle.std.proofs.Common.{◌≡◌, ℕ, zero, suc, ◌<◌, ◌≤◌, ltb, List, [], ◌∷◌, length, get_or, take, drop, sym, refl, ap, ◌∙◌, inl, inr, arith}
+use Rattle.std.proofs.lemmas.List.{get_or_append_left, get_or_push, get_or_past, length_push}
 use Rattle.std.proofs.lemmas.Bool.{cases_lt, cond-true, cond-false, lt-ltb, le-ltb}
 use Rattle.store.specs.Slots.{slot_at, place_of}
 use Rattle.names.specs.Names.{own_atoms}
 use Rattle.names.specs.Table.{spelled, table}
-
--- a part of a text, cut at its end
-module _ (text : List ℕ) (long from place : ℕ) (is : from ≡ place) where
-  pub part_past : length text ≤ from → [] ≡ take long (drop place text)
-  part_past h =
-      sym (take_all long (drop place text) (omega (arith, h, is, length-drop place text)) ∙ drop_all place text
-      (omega (arith, h, is)))
-
-  pub part_end : length (take (length text - from) (drop from text)) ≤ long
-      → take (length text - from) (drop from text) ≡ take long (drop place text)
-  part_end h =
-      take_rest text from ∙ (sym (take_all long (drop from text) (omega (arith, h, ap length (take_rest text from))))
-      ∙ ap (λ i. take long (drop i text)) is)
-
-  pub part_within : take long (take (length text - from) (drop from text)) ≡ take long (drop place text)
-  part_within = ap (take long) (take_rest text from) ∙ ap (λ i. take long (drop i text)) is
 
 module _ (text spans : List ℕ) where
   pub length-table : (count : ℕ) → length (table text spans count) ≡ count

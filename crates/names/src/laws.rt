@@ -3,15 +3,11 @@
 ghost use Rattle.names.specs.Names.{IndexBelow, NamesStand};
 
 /// Every word of a text that can be a name is in its names, none twice, behind the atoms of the language.
-pub fn names_stand() -> u8
+pub fn names_stand()
     ensures { NamesStand }
-{
-    0
-}
+{}
 
 /// The number of a name is below the number of names.
-pub fn index_below() -> u8
+pub fn index_below()
     ensures { IndexBelow }
-{
-    0
-}
+{}

@@ -12,7 +12,6 @@ mod words;
 
 pub use collect::collect_names;
 pub use laws::{index_below, names_stand};
-pub use lookup::number_of;
 pub use own::own_atom;
-pub use table::{NameTable, name_bytes};
+pub use table::NameTable;
 pub use words::{is_atom, is_name};

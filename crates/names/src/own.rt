@@ -7,7 +7,7 @@ ghost use Rattle.names.specs.Names.{own_atoms};
 pub const OWN_ATOMS: usize = 16;
 
 /// The atoms of the language, in the order of their numbers.
-const ATOMS: [&[u8]; 16] = [
+pub const ATOMS: [&[u8]; OWN_ATOMS] = [
     b"type", b"match", b"clause", b"zero", b"big", b"undef", b"normal", b"old", b"gone", b"ok",
     b"error", b"exit", b"none", b"true", b"false", b"main",
 ];
@@ -16,9 +16,5 @@ const ATOMS: [&[u8]; 16] = [
 pub fn own_atom(number: usize) -> &'static [u8]
     ensures { result.now ≡ slice_index_or own_atoms number [] }
 {
-    if number < OWN_ATOMS {
-        ATOMS[number]
-    } else {
-        b""
-    }
+    ATOMS.get(number).copied().unwrap_or(b"")
 }

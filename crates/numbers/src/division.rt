@@ -4,11 +4,9 @@ ghost use Rattle.std.specs.Prelude.{◌≡◌, negsuc};
 ghost use Rattle.meaning.specs.Values.{quotient, remainder};
 ghost use Rattle.numbers.specs.Divided.{Divided, opposite};
 
-/// What a division gives.
-#[derive(Clone, Copy, Debug, PartialEq)]
-pub enum Division {
-    /// The result.
-    Result(i64),
+/// Why a division gives no result.
+#[derive(Clone, Copy, Debug, PartialEq, Eq)]
+pub enum DivisionError {
     /// The result does not fit.
     TooBig,
     /// The divisor is 0.
@@ -16,11 +14,12 @@ pub enum Division {
 }
 
 /// The quotient of `a` and `b`, rounded down.
-pub fn divide(a: i64, b: i64) -> Division
+pub fn divide(a: i64, b: i64) -> Result<i64, DivisionError>
     ensures { Divided result b (quotient a b) }
 {
+    // The project's rule: a divisor is looked at before it divides, with no `checked_div`.
     if b == 0 {
-        return Division::ByZero;
+        return Err(DivisionError::ByZero);
     }
     if b == -1 {
         return negate(a);
@@ -28,38 +27,38 @@ pub fn divide(a: i64, b: i64) -> Division
     // The machine rounds toward 0: that is up where the remainder has another sign than the divisor.
     let truncated = a / b;
     if has_other_sign(a % b, b) {
-        Division::Result(truncated - 1)
+        Ok(truncated - 1)
     } else {
-        Division::Result(truncated)
+        Ok(truncated)
     }
 }
 
 /// The remainder of `a` and `b` where the quotient is rounded down: 0, or a number of the sign of `b`.
-pub fn modulo(a: i64, b: i64) -> Division
+pub fn modulo(a: i64, b: i64) -> Result<i64, DivisionError>
     ensures { Divided result b (remainder a b) }
 {
     if b == 0 {
-        return Division::ByZero;
+        return Err(DivisionError::ByZero);
     }
     if b == -1 {
-        return Division::Result(0);
+        return Ok(0);
     }
     let truncated = a % b;
     if has_other_sign(truncated, b) {
-        Division::Result(truncated + b)
+        Ok(truncated + b)
     } else {
-        Division::Result(truncated)
+        Ok(truncated)
     }
 }
 
 // The quotient of `a` and -1, the one divisor by which a quotient may not fit.
-fn negate(a: i64) -> Division
+fn negate(a: i64) -> Result<i64, DivisionError>
     ensures { Divided result (negsuc 0) (quotient a (negsuc 0)) }
 {
     if a == i64::MIN {
-        Division::TooBig
+        Err(DivisionError::TooBig)
     } else {
-        Division::Result(-a)
+        Ok(-a)
     }
 }
 

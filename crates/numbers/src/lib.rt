@@ -11,7 +11,7 @@ mod sum;
 #[cfg(test)]
 mod tests;
 
-pub use division::{Division, divide, modulo};
+pub use division::{DivisionError, divide, modulo};
 pub use order::{at_most, equal, less};
 pub use product::multiply;
 pub use sum::{add, subtract};

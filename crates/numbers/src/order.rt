@@ -1,4 +1,6 @@
 //! Which of two numbers is less.
+//!
+//! Each is an operator of the machine; its contract has the language's own word for it, which the operator's has not.
 
 ghost use Rattle.std.specs.Prelude.{◌≡◌, not};
 ghost use Rattle.meaning.specs.Values.{less_int, same_int};

@@ -8,6 +8,7 @@ ghost use Rattle.numbers.specs.Exact.{Exact};
 pub fn multiply(a: i64, b: i64) -> Option<i64>
     ensures { Exact result (a *ℤ b) }
 {
+    // The project's rule: factors are looked at before they are multiplied, with no `checked_mul`.
     if product_fits(a, b) {
         Some(a * b)
     } else {
@@ -37,5 +38,5 @@ fn product_fits(a: i64, b: i64) -> bool
 fn lies_between(low: i64, a: i64, high: i64) -> bool
     ensures { result ≡ (int_le low a && int_le a high) }
 {
-    low <= a && a <= high
+    (low..=high).contains(&a)
 }

@@ -7,6 +7,7 @@ ghost use Rattle.numbers.specs.Exact.{Exact};
 pub fn add(a: i64, b: i64) -> Option<i64>
     ensures { Exact result (a +ℤ b) }
 {
+    // The project's rule: numbers of 64 bits are looked at before they are added, with no `checked_add`.
     let fits = if b < 0 {
         i64::MIN - b <= a
     } else {
@@ -19,6 +20,7 @@ pub fn add(a: i64, b: i64) -> Option<i64>
 pub fn subtract(a: i64, b: i64) -> Option<i64>
     ensures { Exact result (a -ℤ b) }
 {
+    // By the same rule, there is no `checked_sub`.
     let fits = if b < 0 {
         a <= i64::MAX + b
     } else {

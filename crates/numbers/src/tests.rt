@@ -1,6 +1,6 @@
 //! Both ends of the range, and each pair of signs.
 
-use crate::{Division, add, divide, modulo, multiply, subtract};
+use crate::{DivisionError, add, divide, modulo, multiply, subtract};
 
 #[test]
 fn sums(rt: HostRuntime) {
@@ -50,25 +50,15 @@ fn products(rt: HostRuntime) {
 #[test]
 fn divisions(rt: HostRuntime) {
     let table = [
-        (7, 2, Division::Result(3), Division::Result(1)),
-        (-7, 2, Division::Result(-4), Division::Result(1)),
-        (7, -2, Division::Result(-4), Division::Result(-1)),
-        (-7, -2, Division::Result(3), Division::Result(-1)),
-        (i64::MIN, -1, Division::TooBig, Division::Result(0)),
-        (i64::MIN, 1, Division::Result(i64::MIN), Division::Result(0)),
-        (
-            i64::MIN,
-            i64::MAX,
-            Division::Result(-2),
-            Division::Result(i64::MAX - 1),
-        ),
-        (
-            i64::MAX,
-            i64::MIN,
-            Division::Result(-1),
-            Division::Result(-1),
-        ),
-        (0, 0, Division::ByZero, Division::ByZero),
+        (7, 2, Ok(3), Ok(1)),
+        (-7, 2, Ok(-4), Ok(1)),
+        (7, -2, Ok(-4), Ok(-1)),
+        (-7, -2, Ok(3), Ok(-1)),
+        (i64::MIN, -1, Err(DivisionError::TooBig), Ok(0)),
+        (i64::MIN, 1, Ok(i64::MIN), Ok(0)),
+        (i64::MIN, i64::MAX, Ok(-2), Ok(i64::MAX - 1)),
+        (i64::MAX, i64::MIN, Ok(-1), Ok(-1)),
+        (0, 0, Err(DivisionError::ByZero), Err(DivisionError::ByZero)),
     ];
     for (a, b, quotient, remainder) in table.iter() {
         assert_eq!(rt; divide(*a, *b), *quotient);

@@ -1,3 +1,3 @@
 pub mod Numbers
+pub mod Waiting
 pub mod Entries
-pub mod Lines

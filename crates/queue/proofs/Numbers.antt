@@ -3,7 +3,7 @@
 use Rattle.std.proofs.Common.{◌≡◌, ℕ, zero, suc, ◌+◌, ◌-◌, ◌<◌, ◌≤◌, List, [], ◌∷◌, ◌++◌, length, sym, refl, ap, ◌∙◌, arith}
 use Rattle.store.specs.Slots.{slot_at, place_of, Wrote}
 use Rattle.store.specs.declared.slot.Slot.{Slot}
-use Rattle.queue.specs.Lines.{numbers}
+use Rattle.queue.specs.Line.{numbers}
 
 pub length-numbers : (words : List ℕ) (i n : ℕ) → length (numbers words i n) ≡ n
 length-numbers words i zero = refl
@@ -32,19 +32,17 @@ numbers_last words i (suc n) =
     ap (λ ns. place_of (slot_at words i) ∷ ns)
     (numbers_last words (suc i) n ∙ ap (λ j. numbers words (suc i) n ++ (place_of (slot_at words j) ∷ [])) e)
 
--- the slot behind n numbers is written: one number more
-pub numbers_push : (words words' : List ℕ) (n : ℕ) (s : Slot) → Wrote words words' n s
-    → numbers words' 0 (n + 1) ≡ numbers words 0 n ++ (place_of s ∷ [])
-numbers_push words words' n s w =
-    let e : n + 1 ≡ suc n = omega arith in
-    let z : 0 + n ≡ n = omega arith in
-    let same : numbers words' 0 n ≡ numbers words 0 n =
-    numbers-same words words' 0 n (λ j h. w.other j (λ i. omega arith)) in
-    let last : place_of (slot_at words' (0 + n)) ≡ place_of s =
+-- the slot behind the numbers from i up to k is written: one number more
+pub numbers_push : (words words' : List ℕ) (i k : ℕ) (s : Slot) → i ≤ k → Wrote words words' k s
+    → numbers words' i (k + 1 - i) ≡ numbers words i (k - i) ++ (place_of s ∷ [])
+numbers_push words words' i k s h w =
+    let e : k + 1 - i ≡ suc (k - i) = omega arith in
+    let z : i + (k - i) ≡ k = omega arith in
+    let same : numbers words' i (k - i) ≡ numbers words i (k - i) =
+    numbers-same words words' i (k - i) (λ j l. w.other j (λ q. omega arith)) in
+    let last : place_of (slot_at words' (i + (k - i))) ≡ place_of s =
     ap (λ j. place_of (slot_at words' j)) z ∙ ap place_of w.here in
-    ap (λ k. numbers words' 0 k) e
-    ∙ (numbers_last words' 0 n
-    ∙ (ap (λ ns. ns ++ (place_of (slot_at words' (0 + n)) ∷ [])) same ∙ ap (λ m. numbers words 0 n ++ (m ∷ [])) last))
+    ap (λ n. numbers words' i n) e ∙ (numbers_last words' i (k - i) ∙ cc)
 
 -- the first of the numbers from i up to k, and those behind it
 pub numbers_first : (words : List ℕ) (i k : ℕ) → i < k

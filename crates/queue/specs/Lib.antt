@@ -1,2 +1,3 @@
--- The scheduler's queue in lent words.
+-- The scheduler's queue in lent words: a line of numbers, and two of them.
+pub mod Line
 pub mod Lines

@@ -2,7 +2,7 @@
 
 #![tactic(auto)]
 
-ghost use Rattle.queue.specs.Lines.{Same};
+ghost use Rattle.std.specs.Prelude.{◌≡◌};
 ghost use Rattle.queue_tests.specs.Rotate.{Rotated};
 ghost use Rattle.std.specs.Result.{MatchResult};
 
@@ -16,17 +16,13 @@ mod tests;
 pub fn rotate(queue: &mut Queue<'_>) -> Result<(), Full>
     ensures { MatchResult result
         (λ _. Rotated queue.old queue.new)
-        (λ _. Same queue.old queue.new) }
+        (λ _. queue.new ≡ queue.old) }
 {
     let Some(number) = queue.first() else {
         queue.turn();
         return Ok(());
     };
-    match queue.push(number) {
-        Ok(()) => {
-            let _ = queue.pop();
-            Ok(())
-        }
-        Err(full) => Err(full),
-    }
+    queue.push(number)?;
+    let _ = queue.pop();
+    Ok(())
 }

@@ -1,79 +1,85 @@
--- Which class a word has. A keyword is compared with those of its length only, since words that are the same are as long.
-use Rattle.std.proofs.Common.{◌≡◌, ℕ, ◌≤◌, Bool, true, false, cond, not, ◌&&◌, ◌||◌, eqb, leb, List, [], ◌∷◌, length, Some, None, Option, sym, refl, ap, ◌∙◌, subst, arith, leb→le}
-use mathlib.Core.Option.{none}
-use Rattle.std.proofs.lemmas.Bool.{and_parts, leb-true, ne_eqb}
-use Rattle.meaning.specs.Basics.{opt, Name, same, listed}
-use Rattle.meaning.specs.Grammar.{keywords, all_letters, digit_first, is_name, number_from}
-use Rattle.meaning.proofs.Splits.{T_of, is_false, and_T, bool_all, cond_all, no_clash, same_is}
-use Rattle.grammar.specs.Classes.{Entry, table, class_in, number_of, c_number, c_name, c_other}
-use Rattle.reader.specs.Classes.{Classified, Reserved, with_length, other_length}
+-- Which class a keyword has: that of the first entry with the same word, and each entry has the right class.
+-- Where no entry has the word, it is no keyword, since the entries have all of them.
+use Rattle.std.proofs.Common.{◌≡◌, Bool, true, false, cond, ◌||◌, ◌⊎◌, inl, inr, map, List, [], ◌∷◌, Some, None, Option, sym, refl, ap, ◌∙◌, subst, Bor}
+use Rattle.std.proofs.lemmas.Bool.{cases_Bool}
+use Rattle.std.specs.Prelude.{find, IsSomeAnd, MatchOption}
+use Rattle.std.specs.Option.{option_map}
+use Rattle.meaning.specs.Basics.{Name, same, listed}
+use Rattle.meaning.specs.Grammar.{keywords}
+use Rattle.meaning.proofs.Splits.{T_of, same_is}
+use Rattle.grammar.specs.Classes.{class_of}
+use Rattle.reader.specs.Classes.{Classified, Reserved, class_means}
 use Rattle.reader.specs.declared.class.Class.{Class}
-use Rattle.reader.specs.declared.class.Class.TheVariants.{Other}
 
 -- what is right of a keyword is right of the word that is the same
 pub same_class : {w : Name} (k : Name) {r : Class} → Classified k r → true ≡ same w k → Classified w r
 same_class {w} k {r} h e = subst (λ x. Classified x r) (sym (same_is w k (T_of (sym e)))) h
 
--- a word is among words if and only if it is among those of its length
-pub listed_with_length :
-    (p : ℕ → Bool) (w : Name) (ks : List Name) → p (length w) ≡ true → listed w (with_length p ks) ≡ listed w ks
-listed_with_length p w [] h = refl
-listed_with_length p w (k ∷ ks) h =
-    bool_all (λ b. listed w (cond b (k ∷ with_length p ks) (with_length p ks)) ≡ listed w (k ∷ ks)) (p (length k))
-    (λ e. ap (λ b. same w k || b) (listed_with_length p w ks h))
-    (λ e. bool_all (λ b. listed w (with_length p ks) ≡ (b || listed w ks)) (same w k)
-    (λ s. no_clash h (ap (λ x. p (length x)) (same_is w k (T_of s)) ∙ e))
-    (λ s. listed_with_length p w ks h))
+-- a keyword and its class
+abbrev pub Labelled : Type 0
+Labelled = Name × Class
 
-pub reserved_with_length :
-    (p : ℕ → Bool) (ks : List Name) (w : Name) (r : Option Class) → p (length w) ≡ true →
-    Reserved (with_length p ks) w r → Reserved ks w r
-reserved_with_length p ks w None h free = sym (listed_with_length p w ks h) ∙ free
-reserved_with_length p ks w (Some r) h class = class
+abbrev pub EachRight : List Labelled → Type 0
+EachRight [] = Unit {0}
+EachRight (e ∷ es) = Classified e.0 e.1 × EachRight es
 
-pub is_other_length : (n : ℕ) → (n ≡ 4 → ⊥) → (n ≡ 5 → ⊥) → other_length n ≡ true
-is_other_length n four five =
-    ap (λ b. not (b || eqb n 5)) (ne_eqb n 4 four) ∙ ap (λ b. not b) (ne_eqb n 5 five)
+pub is_right : {w : Name} {r : Class} → class_means r w ≡ class_of w → Classified w r
+is_right e = record { class = e }
 
--- A word of letters that is no keyword stands in no table each of whose entries is a keyword or is not of letters.
-abbrev pub kept_apart : List Entry → Bool
-kept_apart [] = true
-kept_apart (x ∷ xs) = (not (all_letters x.text) || listed x.text keywords) && kept_apart xs
+-- the first entry with the word gives its class; where none has it, it is none of the words
+pub reserved_more : (e : Labelled) (ks : List Name) (w : Name) (o : Option Class) → same w e.0 ≡ false
+    → Reserved ks w o → Reserved (e.0 ∷ ks) w o
+reserved_more e ks w None other free = ap (λ b. b || listed w ks) other ∙ free
+reserved_more e ks w (Some r) other class = class
 
-pub table-kept_apart : kept_apart table ≡ true
-table-kept_apart = refl
+pub reserved_by_find : (w : Name) (es : List Labelled) → EachRight es
+    → Reserved (map (λ e. e.0) es) w (option_map (λ e. e.1) (find (λ e. same w e.0) es))
+reserved_by_find w [] right = refl
+reserved_by_find w (e ∷ es) (here, others) = way (cases_Bool (same w e.0)) (reserved_by_find w es others)
+  where
+    found : Bool → Option Class
+    found b = option_map (λ x. x.1) (cond b (Some e) (find (λ x. same w x.0) es))
 
-pub not_in_table :
-    (xs : List Entry) (w : Name) → kept_apart xs ≡ true → all_letters w ≡ true → listed w keywords ≡ false →
-    class_in xs w ≡ c_other
-not_in_table [] w h letters free = refl
-not_in_table (x ∷ xs) w h letters free =
-    let parts = and_parts (not (all_letters x.text) || listed x.text keywords) (kept_apart xs) h in
-    cond_all (λ c. c ≡ c_other) (same w x.text) x.class (class_in xs w)
-    (λ e. no_clash (subst (λ y. (not (all_letters y) || listed y keywords) ≡ true) (sym (same_is w x.text (T_of e)))
-    parts.0) (ap (λ b. not b || listed w keywords) letters ∙ free))
-    (λ e. not_in_table xs w parts.1 letters free)
+    way : (same w e.0 ≡ true) ⊎ (same w e.0 ≡ false)
+        → Reserved (map (λ x. x.0) es) w (found false) → Reserved (map (λ x. x.0) (e ∷ es)) w (found (same w e.0))
+    way (inl hit) rest = subst (λ b. Reserved (map (λ x. x.0) (e ∷ es)) w (found b)) (sym hit)
+        (same_class e.0 here (sym hit))
+    way (inr miss) rest = subst (λ b. Reserved (map (λ x. x.0) (e ∷ es)) w (found b)) (sym miss)
+        (reserved_more e (map (λ x. x.0) es) w (found false) miss rest)
 
--- a word of letters that is neither a number nor a name nor a keyword
-pub other_word :
-    (w : Name) → number_of w ≡ none → is_name w ≡ false → all_letters w ≡ true → listed w keywords ≡ false →
-    Classified w Other
-other_word w no_number no_name letters free = record {
-  class = sym (ap (λ o. opt o (cond (is_name w) (c_name w) (class_in table w)) c_number) no_number
-      ∙ (ap (λ b. cond b (c_name w) (class_in table w)) no_name ∙ not_in_table table w table-kept_apart letters free));
-}
+-- the same of the entries that the code keeps
+abbrev pub entry_of : Bor Name × Class → Labelled
+entry_of e = (e.0.now, e.1)
 
--- a name has 1 to 32 bytes, and a number no more
-pub wrong_length :
-    (w : Name) → (1 ≤ length w → length w ≤ 32 → ⊥) → all_letters w ≡ true → listed w keywords ≡ false →
-    Classified w Other
-wrong_length w h = other_word w
-    (cond_all (λ o. o ≡ none) (leb 1 (length w) && leb (length w) 18) (number_from 0 w) none
-    (λ e. let parts = and_parts (leb 1 (length w)) (leb (length w) 18) e in
-    let short = leb-true (length w) 18 parts.1 in
-    absurd (h (leb-true 1 (length w) parts.0) (omega arith))) (λ e. refl))
-    (is_false (is_name w) (λ t.
-    let low = and_T (leb 1 (length w))
-    (leb (length w) 32 && (all_letters w && (not (digit_first w) && not (listed w keywords)))) t in
-    let high = and_T (leb (length w) 32) (all_letters w && (not (digit_first w) && not (listed w keywords))) low.1 in
-    h (leb→le 1 (length w) low.0) (leb→le (length w) 32 high.0)))
+pub find-entries : (w : Name) (es : List (Bor Name × Class))
+    → option_map (λ e. e.1) (find (λ e. same w e.0.now) es)
+    ≡ option_map (λ e. e.1) (find (λ e. same w e.0) (map entry_of es))
+find-entries w [] = refl
+find-entries w (e ∷ es) = way (same w e.0.now) (find-entries w es)
+  where
+    way : (b : Bool)
+        → option_map (λ e. e.1) (find (λ e. same w e.0.now) es)
+        ≡ option_map (λ e. e.1) (find (λ e. same w e.0) (map entry_of es))
+        → option_map (λ e. e.1) (cond b (Some e) (find (λ e. same w e.0.now) es))
+        ≡ option_map (λ e. e.1) (cond b (Some (entry_of e)) (find (λ e. same w e.0) (map entry_of es)))
+    way true rest = refl
+    way false rest = rest
+
+module _ (Gives : Bor (Bor Name × Class) → Class → Type 0) (gives : (e : _) (r : _) → Gives e r → r ≡ e.now.1) where
+  pub class_of_found : (o : Option (Bor (Bor Name × Class))) (r : Option Class)
+      → MatchOption o (r ≡ None) (λ e. IsSomeAnd r (Gives e))
+      → r ≡ option_map (λ e. e.1) (option_map (λ e. e.now) o)
+  class_of_found None r is = is
+  class_of_found (Some e) (Some r) is = ap Some (gives e r is)
+  class_of_found (Some e) None is = absurd is
+
+pub reserved_by_entries : (w : Name) (es : List (Bor Name × Class)) (o : Option (Bor Name × Class)) (r : Option Class)
+    → EachRight (map entry_of es) → map (λ e. e.0) (map entry_of es) ≡ keywords
+    → o ≡ find (λ e. same w e.0.now) es → r ≡ option_map (λ e. e.1) o → Reserved keywords w r
+reserved_by_entries w es o r right all found is =
+    let entries = map entry_of es in
+    let result : r ≡ option_map (λ e. e.1) (find (λ e. same w e.0) entries) =
+    is ∙ (ap (option_map (λ e. e.1)) found ∙ find-entries w es) in
+    subst (Reserved keywords w) (sym result)
+    (subst (λ ks. Reserved ks w (option_map (λ e. e.1) (find (λ e. same w e.0) entries))) all
+    (reserved_by_find w entries right))

@@ -1,21 +1,19 @@
 -- What the classes of the code stand for in the grammar.
-use Rattle.std.specs.Prelude.{◌≡◌, ℕ, Bool, true, false, not, ◌||◌, List, length, Some, None, filter, Option, ◌==◌, nat_eq}
+use Rattle.std.specs.Prelude.{◌≡◌, ℕ, true, false, List, Some, None, Option}
 use Rattle.std.proofs.Math.Option.{Option as Optional, some, none}
 use Rattle.meaning.specs.Basics.{Name, listed}
 use Rattle.meaning.specs.Syntax as syntax
 use Rattle.meaning.specs.Grammar.{keywords, all_letters}
 use Rattle.grammar.specs.Classes as grammar
 use Rattle.grammar.specs.Classes.{class_of}
+use Rattle.code.specs.Operation.{operator_of, builtin_of}
+use Rattle.code.specs.declared.operation.Operator.{Operator}
+use Rattle.code.specs.declared.operation.Operator.TheVariants.{Equal, Unequal, Less, AtMost}
+use Rattle.code.specs.declared.operation.Operator.TheVariants.{Plus, Minus, Times, Divide, Modulo}
 use Rattle.reader.specs.declared.class.Class.{Class}
 use Rattle.reader.specs.declared.class.Class.TheVariants as class
 use Rattle.reader.specs.declared.class.Bracket.{Bracket}
 use Rattle.reader.specs.declared.class.Bracket.TheVariants.{Paren, Brace}
-use Rattle.reader.specs.declared.class.Operator.{Operator}
-use Rattle.reader.specs.declared.class.Operator.TheVariants.{Equal, Unequal, Less, AtMost, Pair}
-use Rattle.reader.specs.declared.class.Operator.TheVariants.{Plus, Minus, Times, Divide, Modulo}
-use Rattle.reader.specs.declared.class.Builtin.{Builtin}
-use Rattle.reader.specs.declared.class.Builtin.TheVariants.{Send, OwnNumber, Link, Exit, Trap}
-use Rattle.reader.specs.declared.class.Builtin.TheVariants.{Show, Register, Whereis, Swap}
 use Rattle.reader.specs.declared.class.Starter.{Starter}
 use Rattle.reader.specs.declared.class.Starter.TheVariants as starter
 use Rattle.reader.specs.declared.class.Separator.{Separator}
@@ -29,29 +27,21 @@ abbrev pub bracket_means : Bracket → grammar.Bracket
 bracket_means Paren = grammar.paren
 bracket_means Brace = grammar.brace
 
+-- how tightly an operator binds, whatever it does
+abbrev pub tightness : Operator → syntax.Operation → grammar.Class
+tightness Equal = grammar.c_operator 1 0
+tightness Unequal = grammar.c_operator 1 0
+tightness Less = grammar.c_operator 1 0
+tightness AtMost = grammar.c_operator 1 0
+tightness Plus = grammar.c_operator 2 2
+tightness Minus = grammar.c_operator 2 2
+tightness Times = grammar.c_operator 3 3
+tightness Divide = grammar.c_operator 3 3
+tightness Modulo = grammar.c_operator 3 3
+
 -- how tightly an operator binds, and which operation it is
 abbrev pub operator_means : Operator → grammar.Class
-operator_means Equal = grammar.c_operator 1 0 (syntax.operate syntax.equal)
-operator_means Unequal = grammar.c_operator 1 0 (syntax.operate syntax.unequal)
-operator_means Less = grammar.c_operator 1 0 (syntax.operate syntax.less)
-operator_means AtMost = grammar.c_operator 1 0 (syntax.operate syntax.at_most)
-operator_means Pair = grammar.c_operator 2 1 syntax.make_pair
-operator_means Plus = grammar.c_operator 2 2 (syntax.operate syntax.plus)
-operator_means Minus = grammar.c_operator 2 2 (syntax.operate syntax.minus)
-operator_means Times = grammar.c_operator 3 3 (syntax.operate syntax.times)
-operator_means Divide = grammar.c_operator 3 3 (syntax.operate syntax.divide)
-operator_means Modulo = grammar.c_operator 3 3 (syntax.operate syntax.modulo)
-
-abbrev pub builtin_means : Builtin → syntax.Builtin
-builtin_means Send = syntax.send
-builtin_means OwnNumber = syntax.self
-builtin_means Link = syntax.link
-builtin_means Exit = syntax.exit
-builtin_means Trap = syntax.trap
-builtin_means Show = syntax.show
-builtin_means Register = syntax.register
-builtin_means Whereis = syntax.whereis
-builtin_means Swap = syntax.swap
+operator_means o = tightness o (syntax.operate (operator_of o))
 
 abbrev pub starter_means : Starter → grammar.Starter
 starter_means starter.Quote = grammar.s_quote
@@ -73,9 +63,10 @@ abbrev pub class_means : Class → Name → grammar.Class
 class_means (class.Number n) w = grammar.c_number n
 class_means class.Name w = grammar.c_name w
 class_means (class.Operator o) w = operator_means o
+class_means class.Cons w = grammar.c_operator 2 1 syntax.make_pair
 class_means (class.Open b) w = grammar.c_open (bracket_means b)
 class_means (class.Close b) w = grammar.c_close (bracket_means b)
-class_means (class.Builtin f) w = grammar.c_builtin (builtin_means f)
+class_means (class.Builtin f) w = grammar.c_builtin (builtin_of f)
 class_means (class.Start s) w = grammar.c_start (starter_means s)
 class_means (class.Separate s) w = grammar.c_separate (separator_means s)
 class_means class.Other w = grammar.c_other
@@ -96,19 +87,3 @@ ClassifiedFree w r = all_letters w ≡ true → listed w keywords ≡ false → 
 abbrev pub Reserved : List Name → Name → Option Class → Type 0
 Reserved ks w None = listed w ks ≡ false
 Reserved ks w (Some r) = Classified w r
-
--- the keywords, by their length
-abbrev pub with_length : (ℕ → Bool) → List Name → List Name
-with_length p = filter (λ k. p (length k))
-
-abbrev pub other_length : ℕ → Bool
-other_length n = not (n == 4 || n == 5)
-
-abbrev pub four_bytes : List Name
-four_bytes = with_length (λ n. nat_eq n 4) keywords
-
-abbrev pub five_bytes : List Name
-five_bytes = with_length (λ n. nat_eq n 5) keywords
-
-abbrev pub other_lengths : List Name
-other_lengths = with_length other_length keywords

@@ -1,11 +1,11 @@
 -- What the look-ahead of the code stands for in the grammar.
 use Rattle.std.specs.Prelude.{◌≡◌, ℕ, ◌+◌, ◌≤◌, Bool}
+use Rattle.std.specs.declared.ops.ControlFlow.{ControlFlow}
+use Rattle.std.specs.declared.ops.ControlFlow.TheVariants.{Continue, Break}
 use Rattle.grammar.specs.LookAhead as grammar
 use Rattle.grammar.specs.LookAhead.{pass}
 use Rattle.reader.specs.declared.look_ahead.Landmark.{Landmark}
 use Rattle.reader.specs.declared.look_ahead.Landmark.TheVariants.{Open, Close, Equals, Semicolon, Neither}
-use Rattle.reader.specs.declared.look_ahead.Passing.{Passing}
-use Rattle.reader.specs.declared.look_ahead.Passing.TheVariants.{Stop, On}
 
 abbrev pub landmark_means : Landmark → grammar.Landmark
 landmark_means Open = grammar.l_open
@@ -16,6 +16,6 @@ landmark_means Neither = grammar.l_none
 
 -- At depth d the landmark ends the search with an answer, or the search goes on at another depth,
 -- whatever the rest of the text gives.
-abbrev pub Passes : ℕ → Landmark → Passing → Type 0
-Passes d m (Stop found) = (rest : ℕ → Bool) → pass d (landmark_means m) rest ≡ found
-Passes d m (On n) = (n ≤ d + 1) × ((rest : ℕ → Bool) → pass d (landmark_means m) rest ≡ rest n)
+abbrev pub Passes : ℕ → Landmark → ControlFlow Bool ℕ → Type 0
+Passes d m (Break found) = (rest : ℕ → Bool) → pass d (landmark_means m) rest ≡ found
+Passes d m (Continue n) = (n ≤ d + 1) × ((rest : ℕ → Bool) → pass d (landmark_means m) rest ≡ rest n)

@@ -1,14 +1,18 @@
 //! The classes of tokens.
 
+use code::{Builtin, Operator};
+
 /// What a token is to the grammar, where no quote stands before it.
-#[derive(Clone, Copy, PartialEq)]
+#[derive(Clone, Copy, PartialEq, Eq, Debug)]
 pub enum Class {
     /// 1 to 18 digits.
     Number(u64),
     /// A name.
     Name,
-    /// What stands between two operands.
+    /// What stands between two operands, but for `::`.
     Operator(Operator),
+    /// `::`
+    Cons,
     /// `(` or `{`
     Open(Bracket),
     /// `)` or `}`
@@ -24,7 +28,7 @@ pub enum Class {
 }
 
 /// The brackets that others stand between.
-#[derive(Clone, Copy, PartialEq)]
+#[derive(Clone, Copy, PartialEq, Eq, Debug)]
 pub enum Bracket {
     /// `(` and `)`
     Paren,
@@ -32,56 +36,8 @@ pub enum Bracket {
     Brace,
 }
 
-/// What stands between two operands.
-#[derive(Clone, Copy, PartialEq)]
-pub enum Operator {
-    /// `==`
-    Equal,
-    /// `!=`
-    Unequal,
-    /// `<`
-    Less,
-    /// `<=`
-    AtMost,
-    /// `::`
-    Pair,
-    /// `+`
-    Plus,
-    /// `-`
-    Minus,
-    /// `*`
-    Times,
-    /// `/`
-    Divide,
-    /// `%`
-    Modulo,
-}
-
-/// The built-in functions, called by what they do.
-#[derive(Clone, Copy, PartialEq)]
-pub enum Builtin {
-    /// `send`
-    Send,
-    /// `self`
-    OwnNumber,
-    /// `link`
-    Link,
-    /// `exit`
-    Exit,
-    /// `trap`
-    Trap,
-    /// `show`
-    Show,
-    /// `name`
-    Register,
-    /// `where`
-    Whereis,
-    /// `swap`
-    Swap,
-}
-
 /// What begins an expression or a pattern.
-#[derive(Clone, Copy, PartialEq)]
+#[derive(Clone, Copy, PartialEq, Eq, Debug)]
 pub enum Starter {
     /// `'`
     Quote,
@@ -100,7 +56,7 @@ pub enum Starter {
 }
 
 /// What stands between two parts.
-#[derive(Clone, Copy, PartialEq)]
+#[derive(Clone, Copy, PartialEq, Eq, Debug)]
 pub enum Separator {
     /// `,`
     Comma,

@@ -4,13 +4,11 @@ ghost use Rattle.meaning.specs.Tokens.{is_letter};
 ghost use Rattle.tokens.specs.Cutting.{Proper, sign_bytes, spelling};
 ghost use Rattle.reader.specs.Classes.{Classified, ClassifiedFree, ClassifiedWord};
 
-use super::class::{Bracket, Class, Operator, Separator, Starter};
+use super::class::{Bracket, Class, Separator, Starter};
 use super::keyword::keyword;
 use super::numeral::number;
-use tokens::{Sign, Token};
-
-// The bytes that a name has at most.
-const LONGEST_NAME: usize = 32;
+use code::Operator;
+use tokens::{LONGEST_NAME, Sign, Token};
 
 /// What a token of a text is to the grammar, where no quote stands before it.
 pub fn class_of(token: Token<'_>) -> Class
@@ -27,26 +25,23 @@ pub fn class_of(token: Token<'_>) -> Class
 fn word_class(word: &[u8]) -> Class
     ensures { ClassifiedWord word.now result }
 {
-    match keyword(word) {
-        Some(class) => class,
-        None => free_word_class(word),
-    }
+    keyword(word).unwrap_or_else(|| free_word_class(word))
 }
 
 // The class of a word that is no keyword.
 fn free_word_class(word: &[u8]) -> Class
     ensures { ClassifiedFree word.now result }
 {
-    if word.len() < 1 || word.len() > LONGEST_NAME {
+    let [first, ..] = word else {
+        return Class::Other;
+    };
+    if word.len() > LONGEST_NAME {
         return Class::Other;
     }
-    if word[0] < b'0' || word[0] > b'9' {
+    if !first.is_ascii_digit() {
         return Class::Name;
     }
-    match number(word) {
-        Some(value) => Class::Number(value),
-        None => Class::Other,
-    }
+    number(word).map_or(Class::Other, Class::Number)
 }
 
 // The class of a sign of two bytes.
@@ -55,7 +50,7 @@ fn sign_class(sign: Sign) -> Class
 {
     match sign {
         Sign::Arrow => Class::Separate(Separator::Arrow),
-        Sign::DoubleColon => Class::Operator(Operator::Pair),
+        Sign::DoubleColon => Class::Cons,
         Sign::Equal => Class::Operator(Operator::Equal),
         Sign::Unequal => Class::Operator(Operator::Unequal),
         Sign::AtMost => Class::Operator(Operator::AtMost),

@@ -8,7 +8,7 @@ mod keyword;
 mod look_ahead;
 mod numeral;
 
-pub use class::{Bracket, Builtin, Class, Operator, Separator, Starter};
+pub use class::{Bracket, Class, Separator, Starter};
 pub use classify::class_of;
 pub use look_ahead::binds;
 pub use numeral::number;

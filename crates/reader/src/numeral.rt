@@ -11,15 +11,13 @@ const MOST_DIGITS: usize = 18;
 pub fn number(word: &[u8]) -> Option<u64>
     ensures { option_means result ≡ number_of word.now }
 {
-    if word.len() < 1 || word.len() > MOST_DIGITS {
+    if word.is_empty() || word.len() > MOST_DIGITS {
         return None;
     }
+    // No `try_fold`: that the number fits follows from how many digits were read.
     let mut value = 0;
     for byte in word {
-        let Some(next) = digit(*byte) else {
-            return None;
-        };
-        value = value * 10 + next;
+        value = value * 10 + digit(*byte)?;
     }
     Some(value)
 }
@@ -28,8 +26,5 @@ pub fn number(word: &[u8]) -> Option<u64>
 fn digit(byte: u8) -> Option<u64>
     ensures { MatchOption result (is_digit byte ≡ false) (λ d. (is_digit byte ≡ true) × (d ≡ byte - 48) × (d < 10)) }
 {
-    match byte {
-        b'0'..=b'9' => Some((byte - b'0') as u64),
-        _ => None,
-    }
+    char::from(byte).to_digit(10).map(u64::from)
 }

@@ -1,73 +1,64 @@
-use reader::{Bracket, Builtin, Class, Operator, Separator, Starter, binds, class_of, number};
+use code::{Builtin, Operator};
+use reader::{Bracket, Class, Separator, Starter, binds, class_of, number};
 use std::process::Abort;
-use std::test::Fail;
 use tokens::next_token;
 
 // The text is one token of this class.
-fn is_class(rt: &impl Abort, text: &[u8], class: Class) -> Result<(), Fail> {
-    match next_token(text) {
-        Some(lexeme) => {
-            assert!(rt; lexeme.rest.len() == 0 && class_of(lexeme.token) == class);
-            Ok(())
-        },
-        None => {
-            assert!(rt; false);
-            Ok(())
-        },
-    }
+fn is_class(rt: &impl Abort, text: &[u8], class: Class) {
+    let found = next_token(text).map(|lexeme| (class_of(lexeme.token), lexeme.rest.len()));
+    assert_eq!(rt; found, Some((class, 0)));
 }
 
 #[test]
-fn signs(rt: HostRuntime) -> Result<(), Fail> {
-    is_class(&rt, b"<=", Class::Operator(Operator::AtMost))?;
-    is_class(&rt, b"<", Class::Operator(Operator::Less))?;
-    is_class(&rt, b"::", Class::Operator(Operator::Pair))?;
-    is_class(&rt, b"->", Class::Separate(Separator::Arrow))?;
-    is_class(&rt, b"=", Class::Separate(Separator::Equals))?;
-    is_class(&rt, b"{", Class::Open(Bracket::Brace))?;
-    is_class(&rt, b")", Class::Close(Bracket::Paren))?;
-    is_class(&rt, b"'", Class::Start(Starter::Quote))?;
-    is_class(&rt, b"]", Class::Other)?;
-    is_class(&rt, b">", Class::Other)
+fn signs(rt: HostRuntime) {
+    is_class(&rt, b"<=", Class::Operator(Operator::AtMost));
+    is_class(&rt, b"<", Class::Operator(Operator::Less));
+    is_class(&rt, b"::", Class::Cons);
+    is_class(&rt, b"->", Class::Separate(Separator::Arrow));
+    is_class(&rt, b"=", Class::Separate(Separator::Equals));
+    is_class(&rt, b"{", Class::Open(Bracket::Brace));
+    is_class(&rt, b")", Class::Close(Bracket::Paren));
+    is_class(&rt, b"'", Class::Start(Starter::Quote));
+    is_class(&rt, b"]", Class::Other);
+    is_class(&rt, b">", Class::Other);
 }
 
 #[test]
-fn keywords(rt: HostRuntime) -> Result<(), Fail> {
-    is_class(&rt, b"_", Class::Start(Starter::Underscore))?;
-    is_class(&rt, b"fn", Class::Other)?;
-    is_class(&rt, b"case", Class::Start(Starter::Case))?;
-    is_class(&rt, b"self", Class::Builtin(Builtin::OwnNumber))?;
-    is_class(&rt, b"name", Class::Builtin(Builtin::Register))?;
-    is_class(&rt, b"where", Class::Builtin(Builtin::Whereis))?;
-    is_class(&rt, b"until", Class::Other)?;
-    is_class(&rt, b"module", Class::Other)?;
-    is_class(&rt, b"receive", Class::Start(Starter::Receive))
+fn keywords(rt: HostRuntime) {
+    is_class(&rt, b"_", Class::Start(Starter::Underscore));
+    is_class(&rt, b"fn", Class::Other);
+    is_class(&rt, b"case", Class::Start(Starter::Case));
+    is_class(&rt, b"self", Class::Builtin(Builtin::Itself));
+    is_class(&rt, b"name", Class::Builtin(Builtin::Register));
+    is_class(&rt, b"where", Class::Builtin(Builtin::Whereis));
+    is_class(&rt, b"until", Class::Other);
+    is_class(&rt, b"module", Class::Other);
+    is_class(&rt, b"receive", Class::Start(Starter::Receive));
 }
 
 #[test]
-fn names(rt: HostRuntime) -> Result<(), Fail> {
-    is_class(&rt, b"x", Class::Name)?;
-    is_class(&rt, b"__", Class::Name)?;
-    is_class(&rt, b"Case", Class::Name)?;
-    is_class(&rt, b"selfs", Class::Name)?;
-    is_class(&rt, b"abcdefghijklmnopqrstuvwxyz012345", Class::Name)?;
-    is_class(&rt, b"abcdefghijklmnopqrstuvwxyz0123456", Class::Other)
+fn names(rt: HostRuntime) {
+    is_class(&rt, b"x", Class::Name);
+    is_class(&rt, b"__", Class::Name);
+    is_class(&rt, b"Case", Class::Name);
+    is_class(&rt, b"selfs", Class::Name);
+    is_class(&rt, b"abcdefghijklmnopqrstuvwxyz012345", Class::Name);
+    is_class(&rt, b"abcdefghijklmnopqrstuvwxyz0123456", Class::Other);
 }
 
 #[test]
-fn numbers(rt: HostRuntime) -> Result<(), Fail> {
-    is_class(&rt, b"0", Class::Number(0))?;
-    is_class(&rt, b"007", Class::Number(7))?;
+fn numbers(rt: HostRuntime) {
+    is_class(&rt, b"0", Class::Number(0));
+    is_class(&rt, b"007", Class::Number(7));
     is_class(
         &rt,
         b"999999999999999999",
         Class::Number(999999999999999999),
-    )?;
-    is_class(&rt, b"1000000000000000000", Class::Other)?;
-    is_class(&rt, b"1a", Class::Other)?;
-    assert!(rt; number(b"").is_none());
-    assert!(rt; number(b"-1").is_none());
-    Ok(())
+    );
+    is_class(&rt, b"1000000000000000000", Class::Other);
+    is_class(&rt, b"1a", Class::Other);
+    assert_eq!(rt; number(b""), None);
+    assert_eq!(rt; number(b"-1"), None);
 }
 
 #[test]

@@ -6,13 +6,13 @@ use Rattle.std.proofs.Common.{◌≡◌, ℕ, ◌+◌, ◌*◌, ◌/◌, ◌<◌
 use Rattle.std.proofs.lemmas.List.{length-append}
 use Rattle.std.proofs.lemmas.Bool.{cases_lt, cond-true, cond-false, lt-ltb, le-ltb}
 use Rattle.store.specs.Collect.{own, own_below, Redirected, Copied, Appended, Mixed, Waiting, Roots}
-use Rattle.store.specs.Heap.{Store, store_of, left_of, right_of, BothOf, Denotes, Den, Kept, Slots}
-use Rattle.store.specs.Slots.{slot_at, place_of, Wrote, WroteCell}
+use Rattle.store.specs.Heap.{Store, store_of, stored, left_of, right_of, BothOf, Denotes, Den, Kept, Put, SameWords, Slots}
+use Rattle.store.specs.Slots.{slot_at, place_of, Wrote}
 use Rattle.store.specs.Tree.{Tree, leaf, node, cells, total}
 use Rattle.store.specs.declared.slot.Cell.{Cell}
+use Rattle.store.specs.declared.heap.Heap.{Heap}
 use Rattle.store.specs.declared.slot.Slot.{Slot}
-use Rattle.store.proofs.Denoting.{kept_cell}
-use Rattle.store.proofs.Laws.{slots_append, slots_same}
+use Rattle.store.proofs.Laws.{kept_refl, slots_append, slots_same}
 
 -- one slot and its cell
 
@@ -28,23 +28,40 @@ own-one s = elim (cases_lt s.kind 16) [ inl l ↦ omega (arith, own_leaf s l) | 
 pub own_more : (words : List ℕ) (i : ℕ) → own_below words (i + 1) ≡ own_below words i + own (slot_at words i)
 own_more words i = ap (own_below words) (add-one i)
 
-pub appended_node : (from to to' : List ℕ) (used : ℕ) (s : Slot) (x : Cell) → 6 * (used + 1) ≤ length to' → 16 ≤ s.kind
-    → BothOf from s x → WroteCell to to' used x → Appended from to to' used (used + 1) s
+-- a cell that was put with what stands in `from` is a copy
+pub appended_node : {from : List ℕ} {m m' : Store} {s r : Slot} {x : Cell} → 16 ≤ s.kind → BothOf from s x
+    → Put m m' s.kind x.left x.right r → Appended from m m' s r
 unfolding left_of right_of
-appended_node from to to' used s x f h b w =
+appended_node {from} {m} {m'} {s} h b p =
     record {
-      copied = record { count = omega (arith, own_node s h); cell = λ n. (w.left ∙ b.left, w.right ∙ b.right) };
-      kept = kept_cell to to' used w;
-      fits = f;
+      copied = record {
+        count = omega (arith, own_node s h, p.count);
+        cell = λ n. (
+          ap (λ i. slot_at m'.words (2 * i)) (sym p.place) ∙ (p.left ∙ b.left),
+          ap (λ i. slot_at m'.words (2 * i + 1)) (sym p.place) ∙ (p.right ∙ b.right),
+        );
+      };
+      kept = p.kept;
+      refers = record { as_leaf = λ l. absurd (omega arith); as_node = λ n. (p.kind_is, p.place) };
+      fits = p.fits;
     }
 
--- what is said of a slot is said of an equal one
-pub appended_at : {from to to' : List ℕ} {used used' : ℕ} {s q : Slot} → s ≡ q → Appended from to to' used used' s
-    → Appended from to to' used used' q
-appended_at {from} {to} {to'} {used} {used'} e a = subst (Appended from to to' used used') e a
+-- a leaf has no cell to copy
+pub appended_leaf : (from : List ℕ) (m : Store) {s q : Slot} → s ≡ q → 6 * m.used ≤ length m.words → s.kind < 16
+    → Appended from m m q q
+appended_leaf from m {s} e f h =
+    subst (λ x. Appended from m m x x) e
+    (record {
+      copied = record { count = omega (arith, own_leaf s h); cell = λ n. absurd (omega arith) };
+      kept = kept_refl;
+      refers = record { as_leaf = λ l. refl; as_node = λ n. absurd (omega arith) };
+      fits = f;
+    })
 
-pub redirected_at : {c : ℕ} {s q s' : Slot} → s ≡ q → Redirected c s s' → Redirected c q s'
-redirected_at {c} {s} {q} {s'} e r = subst (λ x. Redirected c x s') e r
+-- what is said of a slot is said of an equal one
+pub appended_at : {from : List ℕ} {m m' : Store} {s q r : Slot} → s ≡ q → Appended from m m' s r
+    → Appended from m m' q r
+appended_at {from} {m} {m'} {s} {q} {r} e a = subst (λ x. Appended from m m' x r) e a
 
 -- a slot whose cell was copied denotes what it did: its cell waits
 pub landed : (from : Store) (to : List ℕ) (used used' scan : ℕ) (s s' : Slot) (t : Tree)
@@ -109,7 +126,7 @@ below_or_at i n h = grind arith
 
 -- slot `scan` was scanned: its cell was put at the end, and then it was redirected
 module _ (from : Store) {to to₁ to' : List ℕ} {used used' scan : ℕ} {s' : Slot} (lt : scan < 2 * used)
-    (c : Appended from.words to to₁ used used' (slot_at to scan)) (r : Redirected used (slot_at to scan) s')
+    (c : Appended from.words (store_of to used) (store_of to₁ used') (slot_at to scan) s')
     (w : Wrote to₁ to' scan s') where
   same-below : (i : ℕ) → i < 2 * used → (i ≡ scan → ⊥) → slot_at to' i ≡ slot_at to i
   same-below i h n = w.other i n ∙ c.kept.same i h
@@ -132,7 +149,7 @@ module _ (from : Store) {to to₁ to' : List ℕ} {used used' scan : ℕ} {s' : 
       | inl l ↦ subst (λ q. Mixed from to' (scan + 1) used' q t) (sym (same-below i h (λ e. omega arith)))
           (rec (slot_at to i) (d.0 l))
       | inr e ↦ subst (λ q. Mixed from to' (scan + 1) used' q t) (sym (ap (slot_at to') e ∙ w.here))
-          (landed from to' used used' (scan + 1) (slot_at to scan) s' t copied_still r (omega arith)
+          (landed from to' used used' (scan + 1) (slot_at to scan) s' t copied_still c.refers (omega arith)
           (subst (λ x. Den from (slot_at to x) t) e (d.1 (omega arith))))
     ]),
     (λ b. subst (λ q. Den from q t) (sym (same-below i h (λ e. omega arith))) (d.1 (omega arith))),
@@ -211,10 +228,9 @@ next {from} {to} {scan} {used} {sum} lt q = go q.trees q.long q.stand q.adds
     }
 
 pub waiting_step : {from : Store} {to to₁ to' : List ℕ} {used used' scan sum : ℕ} {s' : Slot} → scan < 2 * used
-    → Appended from.words to to₁ used used' (slot_at to scan) → Redirected used (slot_at to scan) s'
-    → Wrote to₁ to' scan s'
+    → Appended from.words (store_of to used) (store_of to₁ used') (slot_at to scan) s' → Wrote to₁ to' scan s'
     → Waiting from to scan used sum → Waiting from to' (scan + 1) used' sum
-waiting_step {from} {to} {to₁} {to'} {used} {used'} {scan} lt c r w q =
+waiting_step {from} {to} {to₁} {to'} {used} {used'} {scan} lt c w q =
     let n = next lt q in
     let a = new_trees n.tree c.copied n.here in
     let end : 2 * used ≡ scan + 1 + length n.rest = omega (arith, n.long) in
@@ -238,6 +254,34 @@ waiting_done {from} {to} {scan} {used} {sum} le q = go q.trees q.long q.adds
     go [] l a = omega arith
     go (t ∷ ts) l a = absurd (omega arith)
 
+-- slot j of the copies is scanned next
+pub record Scanning (from : List ℕ) (h₀ h : Heap) (j : ℕ) : Type 0 where
+  pub same : SameWords h₀ h
+  pub fits : 6 * h.used ≤ length h.words.now
+  pub below : j ≤ 2 * h.used
+  pub waiting : (top sum : ℕ) → Waiting (store_of from top) h₀.words.now 0 h₀.used sum
+      → Waiting (store_of from top) h.words.now j h.used sum
+  pub stands : (top : ℕ) (s : Slot) (t : Tree) → Mixed (store_of from top) h₀.words.now 0 h₀.used s t
+      → Mixed (store_of from top) h.words.now j h.used s t
+
+pub scanning_step : {from : List ℕ} {h₀ h h' : Heap} {words : List ℕ} {j : ℕ} {s' : Slot} → j < 2 * h.used
+    → Appended from (stored h) (store_of words h'.used) (slot_at h.words.now j) s' → Wrote words h'.words.now j s'
+    → length h'.words.now ≡ length words → SameWords h h' → Scanning from h₀ h j → Scanning from h₀ h' (j + 1)
+scanning_step {from} lt a w n e k =
+    record {
+      same = record { long = e.long ∙ k.same.long; lent = e.lent ∙ k.same.lent };
+      fits = omega (arith, a.fits, n);
+      below = omega (arith, a.kept.more, lt);
+      waiting = λ top sum q. waiting_step lt a w (k.waiting top sum q);
+      stands = λ top s t d. mixed_step (store_of from top) lt a w s t (k.stands top s t d);
+    }
+
+pub scanning_leaf : {from : List ℕ} {h₀ h : Heap} {j : ℕ} {s : Slot} → j < 2 * h.used → s ≡ slot_at h.words.now j
+    → s.kind < 16 → Scanning from h₀ h j → Scanning from h₀ h (j + 1)
+scanning_leaf {from} {h₀} {h} {j} lt e b k =
+    scanning_step {h' = h} {words = h.words.now} lt (appended_leaf from (stored h) e k.fits b)
+    (record { here = refl; other = λ i n. refl }) refl (record { long = refl; lent = refl }) k
+
 -- the roots
 
 -- while the roots are copied those from i on wait too
@@ -248,18 +292,6 @@ pub record Ahead (from : Store) (to roots : List ℕ) (i n used whole : ℕ) : T
   pub sum : ℕ
   pub waiting : Waiting from to 0 used sum
   pub adds : sum + total rest ≡ whole
-
-pub ahead_start : {from : Store} {to roots : List ℕ} (ts : List Tree) → Roots from roots ts
-    → Ahead from to roots 0 (length roots / 3) 0 (total ts)
-ahead_start ts r =
-    record {
-      rest = ts;
-      long = omega (arith, r.long);
-      stand = r.stand;
-      sum = 0;
-      waiting = record { trees = []; long = refl; stand = tt; adds = refl };
-      adds = omega arith;
-    }
 
 pub ahead_done : {from : Store} {to roots : List ℕ} {i n used whole : ℕ} → n ≤ i → Ahead from to roots i n used whole
     → Waiting from to 0 used whole
@@ -312,8 +344,8 @@ waiting_more {from} {to} {to'} {used} g a q =
       adds = omega (arith, total-append q.trees a.trees, a.adds, q.adds);
     }
 
-pub ahead_step : {from : Store} {to to' roots : List ℕ} {i n used used' whole : ℕ} → i < n
-    → Appended from.words to to' used used' (slot_at roots i)
+pub ahead_step : {from : Store} {to to' roots : List ℕ} {i n used used' whole : ℕ} {r : Slot} → i < n
+    → Appended from.words (store_of to used) (store_of to' used') (slot_at roots i) r
     → Ahead from to roots i n used whole → Ahead from to' roots (i + 1) n used' whole
 ahead_step lt c a =
     let h = next_root lt a in
@@ -326,8 +358,8 @@ ahead_step lt c a =
       adds = h.adds;
     }
 
-pub roots_step : (from : Store) {to to' : List ℕ} (roots : List ℕ) (i : ℕ) {used used' : ℕ} → used ≡ own_below roots i
-    → Appended from.words to to' used used' (slot_at roots i)
+pub roots_step : (from : Store) {to to' : List ℕ} (roots : List ℕ) (i : ℕ) {used used' : ℕ} {s : Slot} → used ≡ own_below roots i
+    → Appended from.words (store_of to used) (store_of to' used') (slot_at roots i) s
     → ((k : ℕ) (t : Tree) (s' : Slot) → k < i → Den from (slot_at roots k) t
     → Redirected (own_below roots k) (slot_at roots k) s' → Mixed from to 0 used s' t)
     → (k : ℕ) (t : Tree) (s' : Slot) → k < i + 1 → Den from (slot_at roots k) t
@@ -341,7 +373,35 @@ roots_step from {to} {to'} roots i {used} {used'} u c old k t s' b d r =
           (omega arith) (subst (λ x. Den from (slot_at roots x) t) e d)
     ]
 
-pub redirected_step : (roots : List ℕ) {words words' : List ℕ} (i : ℕ) {s' : Slot}
+-- the roots below i have been copied
+pub record RootsBelow (from : List ℕ) (h₀ h : Heap) (roots : List ℕ) (i : ℕ) : Type 0 where
+  pub same : SameWords h₀ h
+  pub fits : 6 * h.used ≤ length h.words.now
+  pub count : h.used ≡ own_below roots i
+  pub stands : (top k : ℕ) (t : Tree) (s' : Slot) → k < i → Den (store_of from top) (slot_at roots k) t
+      → Redirected (own_below roots k) (slot_at roots k) s' → Mixed (store_of from top) h.words.now 0 h.used s' t
+  pub ahead : (top : ℕ) (ts : List Tree) → Roots (store_of from top) roots ts
+      → Ahead (store_of from top) h.words.now roots i (length roots / 3) h.used (total ts)
+
+pub roots_below_step : {from : List ℕ} {h₀ h h' : Heap} {roots : List ℕ} {i : ℕ} {r : Slot} → i < length roots / 3
+    → Appended from (stored h) (stored h') (slot_at roots i) r → SameWords h h' → RootsBelow from h₀ h roots i
+    → RootsBelow from h₀ h' roots (i + 1)
+roots_below_step {from} {h₀} {h} {h'} {roots} {i} lt a e k =
+    record {
+      same = record { long = e.long ∙ k.same.long; lent = e.lent ∙ k.same.lent };
+      fits = a.fits;
+      count = omega (arith, a.copied.count, k.count, own_more roots i);
+      stands = λ top. roots_step (store_of from top) roots i k.count a (k.stands top);
+      ahead = λ top ts q. ahead_step lt a (k.ahead top ts q);
+    }
+
+pub roots_below_leaf : {from : List ℕ} {h₀ h : Heap} {roots : List ℕ} {i : ℕ} {s : Slot} → i < length roots / 3
+    → s ≡ slot_at roots i → s.kind < 16 → RootsBelow from h₀ h roots i → RootsBelow from h₀ h roots (i + 1)
+roots_below_leaf {from} {h₀} {h} {roots} {i} lt e b k =
+    roots_below_step {h' = h} lt (appended_leaf from (stored h) e k.fits b)
+    (record { long = refl; lent = refl }) k
+
+redirected_step : (roots : List ℕ) {words words' : List ℕ} (i : ℕ) {s' : Slot}
     → Redirected (own_below roots i) (slot_at roots i) s' → Wrote words words' i s'
     → ((k : ℕ) → k < i → Redirected (own_below roots k) (slot_at roots k) (slot_at words k))
     → (k : ℕ) → k < i + 1 → Redirected (own_below roots k) (slot_at roots k) (slot_at words' k)
@@ -352,3 +412,39 @@ redirected_step roots {words} {words'} i {s'} r w old k b =
       | inr e ↦ subst (λ q. Redirected (own_below roots k) (slot_at roots k) q) (sym (ap (slot_at words') e ∙ w.here))
           (subst (λ x. Redirected (own_below roots x) (slot_at roots x) s') (sym e) r)
     ]
+
+-- root i is redirected next
+pub record Redirecting (roots words : List ℕ) (next i : ℕ) : Type 0 where
+  pub below : next ≤ i
+  pub count : next ≡ own_below roots i
+  pub moved : (k : ℕ) → k < i → Redirected (own_below roots k) (slot_at roots k) (slot_at words k)
+  pub rest : (k : ℕ) → i ≤ k → slot_at words k ≡ slot_at roots k
+
+redirecting_step : (roots words words' : List ℕ) {next next' i : ℕ} {s' : Slot} → Redirected next (slot_at words i) s'
+    → Wrote words words' i s' → next' ≡ next + own (slot_at words i) → Redirecting roots words next i
+    → Redirecting roots words' next' (i + 1)
+redirecting_step roots words words' {next} {next'} {i} {s'} r w n k =
+    let here : slot_at words i ≡ slot_at roots i = k.rest i (omega arith) in
+    let own_is : own (slot_at words i) ≡ own (slot_at roots i) = ap own here in
+    record {
+      below = omega (arith, k.below, n, own-one (slot_at words i));
+      count = omega (arith, k.count, n, own_is, own_more roots i);
+      moved = redirected_step roots i
+          (subst (λ c. Redirected c (slot_at roots i) s') k.count (subst (λ q. Redirected next q s') here r)) w k.moved;
+      rest = λ q b. w.other q (λ e. omega arith) ∙ k.rest q (omega arith);
+    }
+
+pub redirecting_node : {roots words words' : List ℕ} {next i : ℕ} {s s' : Slot} → s ≡ slot_at words i → 16 ≤ s.kind
+    → s'.kind ≡ s.kind → place_of s' ≡ next → Wrote words words' i s' → Redirecting roots words next i
+    → Redirecting roots words' (next + 1) (i + 1)
+redirecting_node {roots} {words} {words'} {next} {i} {s} {s'} e b q p w k =
+    redirecting_step roots words words'
+    (subst (λ x. Redirected next x s') e (record { as_leaf = λ l. absurd (omega arith); as_node = λ n. (q, p) })) w
+    (omega (arith, ap own e, own_node s b)) k
+
+pub redirecting_leaf : {roots words : List ℕ} {next i : ℕ} {s : Slot} → s ≡ slot_at words i → s.kind < 16
+    → Redirecting roots words next i → Redirecting roots words next (i + 1)
+redirecting_leaf {roots} {words} {next} {i} {s} e b k =
+    redirecting_step roots words words
+    (subst (λ x. Redirected next x x) e (record { as_leaf = λ l. refl; as_node = λ n. absurd (omega arith) }))
+    (record { here = refl; other = λ q n. refl }) (omega (arith, ap own e, own_leaf s b)) k

@@ -1,17 +1,16 @@
 -- The stack holds what is left to compare, so the answer is known when a pair differs or the stack is empty.
 -- A step that opens a pair looks at a cell of the first tree that no other step looks at, so neither the steps nor the
 -- pairs that wait are more than its cells.
-use Rattle.std.proofs.Common.{◌≡◌, ℕ, ◌+◌, ◌-◌, ◌*◌, ◌<◌, ◌≤◌, true, false, ◌&&◌, eqb, List, [], ◌∷◌, length, sym, refl, ap, ◌∙◌, subst, inl, inr, arith}
-use mathlib.Core.Bool.{and_assoc}
+use Rattle.std.proofs.Common.{◌≡◌, ℕ, ◌+◌, ◌-◌, ◌<◌, ◌≤◌, true, false, ◌&&◌, eqb, List, [], ◌∷◌, length, sym, refl, ap, ◌∙◌, subst, inl, inr, arith}
+use mathlib.Core.Bool.{and_assoc, and-true}
 use Rattle.std.proofs.lemmas.Bool.{and_left, cases_Bool, eq-eqb}
 use Rattle.store.specs.Compare.{Told, Pair, all_pairs_same, weight, Pairs, Comparing}
 use Rattle.store.specs.Heap.{Store, left_of, right_of, BothOf, Den}
-use Rattle.store.specs.Slots.{slot_at, cell_at, WroteCell}
 use Rattle.store.specs.Tree.{Tree, leaf, node, cells, same_tree}
 use Rattle.store.specs.declared.comparer.Compared.TheVariants.{Differ, Parts}
 use Rattle.store.specs.declared.slot.Cell.{Cell}
 use Rattle.store.specs.declared.slot.Slot.{Slot}
-use Rattle.store.proofs.Laws.{den_at, leaf_is, leaf_kind, node_is, node_kind, node_left, node_right, one_tree}
+use Rattle.store.proofs.Laws.{leaf_is, leaf_kind, node_is, node_kind, node_left, node_right, one_tree}
 use Rattle.store.proofs.Laws.{same_tree_refl, same_tree-same}
 
 -- slots that are alike denote the same tree
@@ -36,62 +35,66 @@ told-differ {m} {x} {y} s t w d d' =
       | inr e ↦ e
     ]
 
-pairs-same : (m : Store) (w w' : List ℕ) (ps : List Pair) → ((i : ℕ) → i < 2 * length ps → slot_at w' i ≡ slot_at w i)
-    → Pairs m w ps → Pairs m w' ps
-pairs-same m w w' [] e p = tt
-pairs-same m w w' (x ∷ ps) e p = (
-  subst (λ r. Den m r x.one) (sym (e (2 * length ps) (omega arith))) p.0,
-  subst (λ r. Den m r x.two) (sym (e (2 * length ps + 1) (omega arith))) p.1,
-  pairs-same m w w' ps (λ i h. e i (omega arith)) p.2,
-)
+pub comparing_start : {m : Store} {w : List Cell} {x y : Slot} {budget : ℕ} {s t : Tree} → w ≡ [] → Den m x s
+    → Den m y t → Comparing m w x y budget budget s t
+comparing_start {m} {w} {s} {t} z d e =
+    record {
+      one = s;
+      two = t;
+      rest = [];
+      here = d;
+      there = e;
+      stand = subst (λ v. Pairs m v []) (sym z) tt;
+      same = sym (and-true (same_tree s t));
+      steps = omega arith;
+      room = omega (arith, ap length z);
+    }
 
-pub comparing_differs : {m : Store} {w : List ℕ} {x y : Slot} {depth budget left : ℕ} {s t : Tree} → Told x y Differ
-    → Comparing m w x y depth budget left s t → false ≡ same_tree s t
+pub comparing_differs : {m : Store} {w : List Cell} {x y : Slot} {budget left : ℕ} {s t : Tree} → Told x y Differ
+    → Comparing m w x y budget left s t → false ≡ same_tree s t
 comparing_differs e k =
     sym (k.same ∙ and_left (same_tree k.one k.two) (all_pairs_same k.rest)
     (told-differ k.one k.two e k.here k.there))
 
 -- the pair at hand is the same: what waits decides
-rest_decides : {m : Store} {w : List ℕ} {x y : Slot} {depth budget left : ℕ} {s t : Tree} → x ≡ y
-    → (k : Comparing m w x y depth budget left s t) → same_tree s t ≡ all_pairs_same k.rest
+rest_decides : {m : Store} {w : List Cell} {x y : Slot} {budget left : ℕ} {s t : Tree} → x ≡ y
+    → (k : Comparing m w x y budget left s t) → same_tree s t ≡ all_pairs_same k.rest
 rest_decides e k = k.same ∙ ap (λ z. z && all_pairs_same k.rest) (alike_same k.one k.two e k.here k.there)
 
-pub comparing_done : {m : Store} {w : List ℕ} {x y : Slot} {depth budget left : ℕ} {s t : Tree} → x ≡ y → depth ≡ 0
-    → Comparing m w x y depth budget left s t → true ≡ same_tree s t
-comparing_done {m} {w} {x} {y} {depth} {budget} {left} {s} {t} e z k = go k.rest k.long (rest_decides e k)
+pub comparing_done : {m : Store} {w : List Cell} {x y : Slot} {budget left : ℕ} {s t : Tree} → x ≡ y → w ≡ []
+    → Comparing m w x y budget left s t → true ≡ same_tree s t
+comparing_done {m} {w} {x} {y} {budget} {left} {s} {t} e z k =
+    go k.rest (subst (λ v. Pairs m v k.rest) z k.stand) (rest_decides e k)
   where
-    go : (ps : List Pair) → depth ≡ length ps → same_tree s t ≡ all_pairs_same ps → true ≡ same_tree s t
-    go [] l q = sym q
-    go (p ∷ ps) l q = absurd (omega arith)
+    go : (ps : List Pair) → Pairs m [] ps → same_tree s t ≡ all_pairs_same ps → true ≡ same_tree s t
+    go [] h q = sym q
+    go (p ∷ ps) h q = absurd h
 
--- .. and is compared next, from the last cell of the stack
-pub comparing_next : {m : Store} {w : List ℕ} {x y : Slot} {depth budget left : ℕ} {s t : Tree} {p : Cell} → x ≡ y
-    → 0 < depth → p ≡ cell_at w (depth - 1) → Comparing m w x y depth budget left s t
-    → Comparing m w p.left p.right (depth - 1) budget left s t
-comparing_next {m} {w} {x} {y} {depth} {budget} {left} {s} {t} {p} e b c k =
-    go k.rest k.long k.stand (rest_decides e k) k.steps k.room
+-- .. and is compared next, from the top of the stack
+pub comparing_next : {m : Store} {w w' : List Cell} {x y : Slot} {budget left : ℕ} {s t : Tree} {p : Cell} → x ≡ y
+    → w ≡ p ∷ w' → Comparing m w x y budget left s t → Comparing m w' p.left p.right budget left s t
+comparing_next {m} {w} {w'} {x} {y} {budget} {left} {s} {t} {p} e z k =
+    go k.rest (subst (λ v. Pairs m v k.rest) z k.stand) (rest_decides e k) k.steps
+    (subst (λ v. length v + (cells k.one + weight k.rest) ≤ cells s) z k.room)
   where
-    go : (ps : List Pair) → depth ≡ length ps → Pairs m w ps → same_tree s t ≡ all_pairs_same ps
-        → budget + (cells k.one + weight ps) ≤ left + cells s → depth + (cells k.one + weight ps) ≤ cells s
-        → Comparing m w p.left p.right (depth - 1) budget left s t
-    go [] l h q u v = absurd (omega arith)
-    go (r ∷ ps) l h q u v =
-        let z : depth - 1 ≡ length ps = omega arith in
-        record {
-          one = r.one;
-          two = r.two;
-          rest = ps;
-          here = den_at (ap (λ (x : Cell). x.left) c ∙ ap (λ n. slot_at w (2 * n)) z) h.0;
-          there = den_at (ap (λ (x : Cell). x.right) c ∙ ap (λ n. slot_at w (2 * n + 1)) z) h.1;
-          long = omega arith;
-          stand = h.2;
-          same = q;
-          steps = omega arith;
-          room = omega arith;
-        }
+    go : (ps : List Pair) → Pairs m (p ∷ w') ps → same_tree s t ≡ all_pairs_same ps
+        → budget + (cells k.one + weight ps) ≤ left + cells s
+        → length (p ∷ w') + (cells k.one + weight ps) ≤ cells s → Comparing m w' p.left p.right budget left s t
+    go [] h q u v = absurd h
+    go (r ∷ ps) h q u v = record {
+      one = r.one;
+      two = r.two;
+      rest = ps;
+      here = h.0;
+      there = h.1;
+      stand = h.2;
+      same = q;
+      steps = omega arith;
+      room = omega arith;
+    }
 
 -- the pair at hand are nodes of one kind, with the cells p and q: the left slots are to be compared, and the right ones
-record Opened (m : Store) (p q : Cell) (depth budget left : ℕ) (rest : List Pair) (s t : Tree) : Type 0 where
+record Opened (m : Store) (p q : Cell) (high budget left : ℕ) (rest : List Pair) (s t : Tree) : Type 0 where
   lefts : Pair
   rights : Pair
   left_one : Den m p.left lefts.one
@@ -100,17 +103,17 @@ record Opened (m : Store) (p q : Cell) (depth budget left : ℕ) (rest : List Pa
   right_two : Den m q.right rights.two
   same : same_tree s t ≡ (same_tree lefts.one lefts.two && (same_tree rights.one rights.two && all_pairs_same rest))
   steps : budget + (1 + cells lefts.one + cells rights.one + weight rest) ≤ left + cells s
-  room : depth + (1 + cells lefts.one + cells rights.one + weight rest) ≤ cells s
+  room : high + (1 + cells lefts.one + cells rights.one + weight rest) ≤ cells s
 
-opened : {m : Store} {w : List ℕ} {x y : Slot} {depth budget left : ℕ} {s t : Tree} {p q : Cell} → Told x y Parts
+opened : {m : Store} {w : List Cell} {x y : Slot} {budget left : ℕ} {s t : Tree} {p q : Cell} → Told x y Parts
     → BothOf m.words x p → BothOf m.words y q
-    → (k : Comparing m w x y depth budget left s t) → Opened m p q depth budget left k.rest s t
-opened {m} {w} {x} {y} {depth} {budget} {left} {s} {t} {p} {q} e bp bq k =
+    → (k : Comparing m w x y budget left s t) → Opened m p q (length w) budget left k.rest s t
+opened {m} {w} {x} {y} {budget} {left} {s} {t} {p} {q} e bp bq k =
     go k.one k.two k.here k.there k.same k.steps k.room
   where
     go : (one two : Tree) → Den m x one → Den m y two → same_tree s t ≡ (same_tree one two && all_pairs_same k.rest)
         → budget + (cells one + weight k.rest) ≤ left + cells s
-        → depth + (cells one + weight k.rest) ≤ cells s → Opened m p q depth budget left k.rest s t
+        → length w + (cells one + weight k.rest) ≤ cells s → Opened m p q (length w) budget left k.rest s t
     go (leaf i l h) two d d' z u v = absurd (omega (arith, leaf_kind d, ap (λ (g : Slot). g.kind) (leaf_is d), e.0))
     go (node i a₁ a₂) (leaf i' l' h') d d' z u v = absurd
         (omega (arith, leaf_kind d', ap (λ (g : Slot). g.kind) (leaf_is d'), e.0, e.1))
@@ -130,11 +133,11 @@ opened {m} {w} {x} {y} {depth} {budget} {left} {s} {t} {p} {q} e bp bq k =
         }
 
 -- the left slots are compared next, and the right ones wait
-pub comparing_lefts : {m : Store} {w w' : List ℕ} {x y : Slot} {depth budget left : ℕ} {s t : Tree} {p q : Cell}
+pub comparing_lefts : {m : Store} {w w' : List Cell} {x y : Slot} {budget left : ℕ} {s t : Tree} {p q : Cell}
     → Told x y Parts → 0 < left → BothOf m.words x p → BothOf m.words y q
-    → WroteCell w w' depth (record { left = p.right; right = q.right }) → Comparing m w x y depth budget left s t
-    → Comparing m w' p.left q.left (depth + 1) budget (left - 1) s t
-comparing_lefts {m} {w} {w'} {x} {y} {depth} e b bp bq r k =
+    → w' ≡ record { left = p.right; right = q.right } ∷ w → Comparing m w x y budget left s t
+    → Comparing m w' p.left q.left budget (left - 1) s t
+comparing_lefts {m} {w} {w'} {s} e b bp bq z k =
     let o = opened e bp bq k in
     record {
       one = o.lefts.one;
@@ -142,24 +145,16 @@ comparing_lefts {m} {w} {w'} {x} {y} {depth} e b bp bq r k =
       rest = o.rights ∷ k.rest;
       here = o.left_one;
       there = o.left_two;
-      long = omega (arith, k.long);
-      stand = (
-        subst (λ n. Den m (slot_at w' (2 * n)) o.rights.one) k.long
-            (subst (λ (g : Slot). Den m g o.rights.one) (sym r.left) o.right_one),
-        subst (λ n. Den m (slot_at w' (2 * n + 1)) o.rights.two) k.long
-            (subst (λ (g : Slot). Den m g o.rights.two) (sym r.right) o.right_two),
-        pairs-same m w w' k.rest (λ i h. r.other i (λ g. omega (arith, k.long)) (λ g. omega (arith, k.long)))
-            k.stand,
-      );
+      stand = subst (λ v. Pairs m v (o.rights ∷ k.rest)) (sym z) (o.right_one, o.right_two, k.stand);
       same = o.same;
       steps = omega (arith, b, o.steps);
-      room = omega (arith, o.room);
+      room = omega (arith, o.room, ap length z);
     }
 
 -- the left slots are alike: the right ones are compared next
-pub comparing_rights : {m : Store} {w : List ℕ} {x y : Slot} {depth budget left : ℕ} {s t : Tree} {p q : Cell}
+pub comparing_rights : {m : Store} {w : List Cell} {x y : Slot} {budget left : ℕ} {s t : Tree} {p q : Cell}
     → Told x y Parts → 0 < left → BothOf m.words x p → BothOf m.words y q → p.left ≡ q.left
-    → Comparing m w x y depth budget left s t → Comparing m w p.right q.right depth budget (left - 1) s t
+    → Comparing m w x y budget left s t → Comparing m w p.right q.right budget (left - 1) s t
 comparing_rights e b bp bq alike k =
     let o = opened e bp bq k in
     record {
@@ -168,7 +163,6 @@ comparing_rights e b bp bq alike k =
       rest = k.rest;
       here = o.right_one;
       there = o.right_two;
-      long = k.long;
       stand = k.stand;
       same = o.same
           ∙ ap (λ g. g && (same_tree o.rights.one o.rights.two && all_pairs_same k.rest))
@@ -178,8 +172,8 @@ comparing_rights e b bp bq alike k =
     }
 
 -- a pair that is opened is a cell more of the first tree
-pub comparing_short : {m : Store} {w : List ℕ} {x y : Slot} {depth budget left : ℕ} {s t : Tree} → Told x y Parts
-    → Comparing m w x y depth budget left s t → (depth < cells s) × (budget < left + cells s)
+pub comparing_short : {m : Store} {w : List Cell} {x y : Slot} {budget left : ℕ} {s t : Tree} → Told x y Parts
+    → Comparing m w x y budget left s t → (length w < cells s) × (budget < left + cells s)
 comparing_short {m} {w} {x} {y} e k =
     let p : Cell = record { left = left_of m.words x; right = right_of m.words x } in
     let q : Cell = record { left = left_of m.words y; right = right_of m.words y } in

@@ -1,7 +1,7 @@
 -- What a slot denotes stays denoted while the cells in use stay, a new cell is denoted, and no slot denotes two trees.
 -- Each is an induction on the tree: a node's slots lie among the cells in use.
 use Rattle.std.proofs.Common.{◌≡◌, ℕ, ◌+◌, ◌*◌, ◌≤◌, List, length, sym, refl, ap, ◌∙◌, subst, arith}
-use Rattle.store.specs.Heap.{Store, store_of, Denotes, Kept, Put}
+use Rattle.store.specs.Heap.{Store, store_of, left_of, right_of, Denotes, Kept, Put}
 use Rattle.store.specs.Slots.{slot_at, place_of, WroteCell}
 use Rattle.store.specs.Tree.{Tree, leaf, node}
 use Rattle.store.specs.declared.slot.Cell.{Cell}
@@ -41,8 +41,11 @@ kept_cell words words' used w =
 pub put_cell : (words words' : List ℕ) (used kind : ℕ) (x : Cell) (r : Slot) → 6 * (used + 1) ≤ length words'
     → r.kind ≡ kind → place_of r ≡ used → WroteCell words words' used x
     → Put (store_of words used) (store_of words' (used + 1)) kind x.left x.right r
+unfolding left_of right_of
 put_cell words words' used kind x r n k p w =
     let g = kept_cell words words' used w in
+    let l : slot_at words' (2 * place_of r) ≡ x.left = ap (λ q. slot_at words' (2 * q)) p ∙ w.left in
+    let h : slot_at words' (2 * place_of r + 1) ≡ x.right = ap (λ q. slot_at words' (2 * q + 1)) p ∙ w.right in
     record {
       kept = g;
       stands = λ {s} {t} b d e.
@@ -51,14 +54,14 @@ put_cell words words' used kind x r n k p w =
               omega arith,
               k,
               omega arith,
-              subst (λ q. Denotes words' (used + 1) q s) (sym (ap (λ q. slot_at words' (2 * q)) p ∙ w.left))
-                  (denotes_kept g x.left s d.is),
-              subst (λ q. Denotes words' (used + 1) q t) (sym (ap (λ q. slot_at words' (2 * q + 1)) p ∙ w.right))
-                  (denotes_kept g x.right t e.is),
+              subst (λ q. Denotes words' (used + 1) q s) (sym l) (denotes_kept g x.left s d.is),
+              subst (λ q. Denotes words' (used + 1) q t) (sym h) (denotes_kept g x.right t e.is),
             );
           };
       count = refl;
       fits = n;
       place = p;
       kind_is = k;
+      left = l;
+      right = h;
     }

@@ -44,11 +44,12 @@ pub record Copied (from to' : List ℕ) (used used' : ℕ) (s : Slot) : Type 0 w
       → (slot_at to' (2 * used) ≡ slot_at from (2 * place_of s))
       × (slot_at to' (2 * used + 1) ≡ slot_at from (2 * place_of s + 1))
 
--- .. and all else is as it was
-pub record Appended (from to to' : List ℕ) (used used' : ℕ) (s : Slot) : Type 0 where
-  pub copied : Copied from to' used used' s
-  pub kept : Kept (store_of to used) (store_of to' used')
-  pub fits : 6 * used' ≤ length to'
+-- .. and all else is as it was, and r refers to the copy
+pub record Appended (from : List ℕ) (m m' : Store) (s r : Slot) : Type 0 where
+  pub copied : Copied from m'.words m.used m'.used s
+  pub kept : Kept m m'
+  pub refers : Redirected m.used s r
+  pub fits : 6 * m'.used ≤ length m'.words
 
 -- what a slot denotes in a half copied store: the slots of `to` below `scan` refer to `to`, the others still to `from`
 abbrev pub Mixed : Store → List ℕ → ℕ → ℕ → Slot → Tree → Type 0
@@ -68,22 +69,22 @@ pub record Waiting (from : Store) (to : List ℕ) (scan used sum : ℕ) : Type 0
   pub adds : used + total trees ≡ sum
 
 -- the roots have been copied, but not what their cells refer to
-pub record RootsCopied (from to' roots : List ℕ) (used : ℕ) : Type 0 where
-  pub fits : 6 * used ≤ length to'
+pub record RootsCopied (from : List ℕ) (m : Store) (roots : List ℕ) : Type 0 where
+  pub fits : 6 * m.used ≤ length m.words
   pub stands : (top i : ℕ) (t : Tree) (s' : Slot) → i < length roots / 3 → Den (store_of from top) (slot_at roots i) t
-      → Redirected (own_below roots i) (slot_at roots i) s' → Mixed (store_of from top) to' 0 used s' t
+      → Redirected (own_below roots i) (slot_at roots i) s' → Mixed (store_of from top) m.words 0 m.used s' t
   pub waiting : (top : ℕ) (ts : List Tree) → Roots (store_of from top) roots ts
-      → Waiting (store_of from top) to' 0 used (total ts)
+      → Waiting (store_of from top) m.words 0 m.used (total ts)
 
 -- nothing refers to `from` any more
-pub record Scanned (from to to' : List ℕ) (start used : ℕ) : Type 0 where
-  pub fits : 6 * used ≤ length to'
-  pub stands : (top : ℕ) (s : Slot) (t : Tree) → Mixed (store_of from top) to 0 start s t → Den (store_of to' used) s t
-  pub count : (top sum : ℕ) → Waiting (store_of from top) to 0 start sum → used ≡ sum
+pub record Scanned (from : List ℕ) (m m' : Store) : Type 0 where
+  pub fits : 6 * m'.used ≤ length m'.words
+  pub stands : (top : ℕ) (s : Slot) (t : Tree) → Mixed (store_of from top) m.words 0 m.used s t → Den m' s t
+  pub count : (top sum : ℕ) → Waiting (store_of from top) m.words 0 m.used sum → m'.used ≡ sum
 
 -- the cells of all that waits do not fit
-pub record ScanOverfull (from to : List ℕ) (start : ℕ) : Type 0 where
-  pub short : {top sum : ℕ} → Waiting (store_of from top) to 0 start sum → length to < 6 * sum
+pub record ScanOverfull (from : List ℕ) (m : Store) : Type 0 where
+  pub short : {top sum : ℕ} → Waiting (store_of from top) m.words 0 m.used sum → length m.words < 6 * sum
 
 -- each root refers to where its cell was copied
 pub record RootsRedirected (roots roots' : List ℕ) : Type 0 where

@@ -1,10 +1,10 @@
 -- Whether two slots denote the same tree, and how a comparison stands: a pair at hand, and a stack of pairs that wait.
 use Rattle.std.specs.Prelude.{◌≡◌, ℕ, ◌+◌, ◌*◌, ◌<◌, ◌≤◌, Bool, true, ◌&&◌, ◌⊎◌, List, [], ◌∷◌, length, ◌≢◌}
 use Rattle.store.specs.Heap.{Store, store_of, Den}
-use Rattle.store.specs.Slots.{slot_at}
 use Rattle.store.specs.Tree.{Tree, cells, same_tree}
 use Rattle.store.specs.declared.comparer.Compared.{Compared}
 use Rattle.store.specs.declared.comparer.Compared.TheVariants.{Same, Differ, Parts}
+use Rattle.store.specs.declared.slot.Cell.{Cell}
 use Rattle.store.specs.declared.slot.Slot.{Slot}
 
 -- the answer is whether the trees are the same
@@ -34,22 +34,21 @@ abbrev pub weight : List Pair → ℕ
 weight [] = 0
 weight (p ∷ ps) = cells p.one + weight ps
 
--- the cells of the scratch hold the pairs that wait; the last cell is the first pair of the list
-abbrev pub Pairs : Store → List ℕ → List Pair → Type 0
-Pairs m scratch [] = Unit {0}
-Pairs m scratch (p ∷ ps) =
-    Den m (slot_at scratch (2 * length ps)) p.one × Den m (slot_at scratch (2 * length ps + 1)) p.two × Pairs m
-    scratch ps
+-- each cell that waits is a pair of slots, which denote the trees of a pair
+abbrev pub Pairs : Store → List Cell → List Pair → Type 0
+Pairs m [] [] = Unit {0}
+Pairs m [] (p ∷ ps) = ⊥
+Pairs m (x ∷ xs) [] = ⊥
+Pairs m (x ∷ xs) (p ∷ ps) = Den m x.left p.one × Den m x.right p.two × Pairs m xs ps
 
 -- s and t are the same if the pair x, y at hand and those that wait are; no cell of s is looked at twice
-pub record Comparing (m : Store) (scratch : List ℕ) (x y : Slot) (depth budget left : ℕ) (s t : Tree) : Type 0 where
+pub record Comparing (m : Store) (waiting : List Cell) (x y : Slot) (budget left : ℕ) (s t : Tree) : Type 0 where
   pub one : Tree
   pub two : Tree
   pub rest : List Pair
   pub here : Den m x one
   pub there : Den m y two
-  pub long : depth ≡ length rest
-  pub stand : Pairs m scratch rest
+  pub stand : Pairs m waiting rest
   pub same : same_tree s t ≡ (same_tree one two && all_pairs_same rest)
   pub steps : budget + (cells one + weight rest) ≤ left + cells s
-  pub room : depth + (cells one + weight rest) ≤ cells s
+  pub room : length waiting + (cells one + weight rest) ≤ cells s

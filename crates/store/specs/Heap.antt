@@ -47,6 +47,19 @@ pub record Kept (m m' : Store) : Type 0 where
   pub more : m.used ≤ m'.used
   pub same : (j : ℕ) → j < 2 * m.used → slot_at m'.words j ≡ slot_at m.words j
 
+-- memory is as long as it was, and the cells in use stay as they are: a clause and no type's invariant, as it is of before and
+-- after
+pub record Grows (m m' : Store) : Type 0 where
+  pub long : length m'.words ≡ length m.words
+  pub kept : Kept m m'
+
+-- the heap has the words that it had, lent as before
+abbrev pub SameWords : Heap → Heap → Type 0
+SameWords h h' = record {
+  long : length h'.words.now ≡ length h.words.now;
+  lent : h'.words.ghost_name ≡ h.words.ghost_name;
+}
+
 -- r refers to a new cell with the slots a and b
 pub record Put (m m' : Store) (kind : ℕ) (a b r : Slot) : Type 0 where
   pub kept : Kept m m'
@@ -55,6 +68,8 @@ pub record Put (m m' : Store) (kind : ℕ) (a b r : Slot) : Type 0 where
   pub fits : 6 * m'.used ≤ length m'.words
   pub place : place_of r ≡ m.used
   pub kind_is : r.kind ≡ kind
+  pub left : left_of m'.words r ≡ a
+  pub right : right_of m'.words r ≡ b
 
 -- there is no cell left, and nothing has changed
 pub record Lacks (m m' : Store) : Type 0 where

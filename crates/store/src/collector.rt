@@ -1,10 +1,13 @@
 //! The collector: copies what the root slots denote into other memory, a cell for each reference to it.
 
-ghost use Rattle.std.specs.Prelude.{◌≡◌, ℕ, ◌+◌, ◌*◌, ◌<◌, ◌≤◌, length, MatchResult};
-ghost use Rattle.store.specs.Collect.{own, Appended, Collected, Overfull, Redirected};
+ghost use Rattle.std.specs.Prelude.{◌≡◌, ◌*◌, ◌≤◌, length, MatchResult};
+ghost use Rattle.store.specs.Collect.{Appended, Collected, Overfull};
 ghost use Rattle.store.specs.Collect.{RootsCopied, RootsRedirected, ScanOverfull, Scanned};
+ghost use Rattle.store.specs.Heap.{stored, Lacks, SameWords};
 
-use crate::slot::{FIRST_NODE, Full, Place, Slot, both, load_slot, set_slot, write_cell};
+use crate::cells::Cells;
+use crate::heap::Heap;
+use crate::slot::{FIRST_NODE, Full, Place, Slot, load_slot, set_slot};
 
 /// Copies what the root slots denote from `from` to `to`, lets the roots refer to the copies, and gives the number of
 /// cells then in use; refuses where these do not fit, and then leaves the roots as they were.
@@ -13,55 +16,61 @@ pub fn collect(from: &[u32], to: &mut [u32], roots: &mut [u32]) -> Result<usize,
         (λ used. Collected from.now to.new roots.old roots.new used)
         (λ _. Overfull from.now to.old roots.old roots.new) }
 {
-    let start = match copy_roots(from, to, roots) {
-        Ok(start) => start,
-        Err(full) => return Err(full),
-    };
-    let used = match scan(from, to, start) {
-        Ok(used) => used,
-        Err(full) => return Err(full),
-    };
+    let mut copies = Heap { words: to, used: 0 };
+    collect_into(from, &mut copies, roots)?;
+    Ok(copies.used)
+}
+
+/// Collects into a heap of no cells.
+fn collect_into(from: &[u32], copies: &mut Heap<'_>, roots: &mut [u32]) -> Result<(), Full>
+    requires { copies.old.used ≡ 0 }
+    ensures same { SameWords copies.old copies.new }
+    ensures cases { MatchResult result
+        (λ _. Collected from.now copies.new.words.now roots.old roots.new copies.new.used)
+        (λ _. Overfull from.now copies.old.words.now roots.old roots.new) }
+{
+    copy_roots(from, copies, roots)?;
+    scan(from, copies)?;
     redirect_roots(roots);
-    Ok(used)
+    Ok(())
 }
 
 /// Copies the cells that the root slots refer to, in the order of the roots.
-fn copy_roots(from: &[u32], to: &mut [u32], roots: &[u32]) -> Result<usize, Full>
-    ensures { MatchResult result
-        (λ used. RootsCopied from.now to.new roots.now used)
-        (λ _. Overfull from.now to.old roots.now roots.now) }
+fn copy_roots(from: &[u32], copies: &mut Heap<'_>, roots: &[u32]) -> Result<(), Full>
+    requires { copies.old.used ≡ 0 }
+    ensures same { SameWords copies.old copies.new }
+    ensures cases { MatchResult result
+        (λ _. RootsCopied from.now (stored copies.new) roots.now)
+        (λ _. Overfull from.now copies.old.words.now roots.now roots.now) }
 {
-    let mut used: usize = 0;
     for i in 0..roots.len() / 3 {
         let root = load_slot(roots, i);
-        used = match copy_cell(from, to, used, root) {
-            Ok(next) => next,
-            Err(full) => return Err(full),
-        };
+        if root.kind >= FIRST_NODE {
+            copy_cell(from, copies, root)?;
+        }
     }
-    Ok(used)
+    Ok(())
 }
 
-/// Copies what the cells of `to` refer to in `from`, and lets them refer to the copies, until none refers to `from`.
-fn scan(from: &[u32], to: &mut [u32], start: usize) -> Result<usize, Full>
-    requires { 6 * start ≤ length to.old }
-    ensures { MatchResult result
-        (λ used. Scanned from.now to.old to.new start used)
-        (λ _. ScanOverfull from.now to.old start) }
+/// Copies what the cells of `copies` refer to in `from`, and lets them refer to the copies, until none refers to `from`.
+fn scan(from: &[u32], copies: &mut Heap<'_>) -> Result<(), Full>
+    requires { 6 * copies.old.used ≤ length copies.old.words.now }
+    ensures same { SameWords copies.old copies.new }
+    ensures cases { MatchResult result
+        (λ _. Scanned from.now (stored copies.old) (stored copies.new))
+        (λ _. ScanOverfull from.now (stored copies.old)) }
 {
-    let mut used = start;
     let mut j: usize = 0;
-    while j < 2 * used {
-        let slot = load_slot(to, j);
-        let next = match copy_cell(from, to, used, slot) {
-            Ok(next) => next,
-            Err(full) => return Err(full),
-        };
-        set_slot(to, j, redirected(slot, Place(used)));
-        used = next;
+    // No `for`, since each copy moves the end.
+    while j < 2 * copies.used {
+        let slot = load_slot(copies.words(), j);
+        if slot.kind >= FIRST_NODE {
+            let copy = copy_cell(from, copies, slot)?;
+            set_slot(copies.words, j, copy);
+        }
         j += 1;
     }
-    Ok(used)
+    Ok(())
 }
 
 /// Lets each root refer to where `copy_roots` has copied its cell.
@@ -71,41 +80,21 @@ fn redirect_roots(roots: &mut [u32])
     let mut next: usize = 0;
     for i in 0..roots.len() / 3 {
         let root = load_slot(roots, i);
-        set_slot(roots, i, redirected(root, Place(next)));
-        next += own_cells(root);
+        if root.kind >= FIRST_NODE {
+            set_slot(roots, i, Place(next).slot(root.kind));
+            next += 1;
+        }
     }
 }
 
-/// Copies the cell that `slot` refers to in `from`, if any, to the end of `to`; gives the number of cells then in use.
-fn copy_cell(from: &[u32], to: &mut [u32], used: usize, slot: Slot) -> Result<usize, Full>
-    requires { 6 * used ≤ length to.old }
-    ensures { MatchResult result
-        (λ next. Appended from.now to.old to.new used next slot)
-        (λ _. (16 ≤ slot.kind) × (length to.old < 6 * (used + 1))) }
+/// Copies the cell that `node` refers to in `from`, and gives the slot that refers to the copy.
+fn copy_cell(from: &[u32], copies: &mut Heap<'_>, node: Slot) -> Result<Slot, Full>
+    requires { 16 ≤ node.kind }
+    ensures same { SameWords copies.old copies.new }
+    ensures cases { MatchResult result
+        (λ copy. Appended from.now (stored copies.old) (stored copies.new) node copy)
+        (λ _. Lacks (stored copies.old) (stored copies.new)) }
 {
-    if slot.kind < FIRST_NODE {
-        return Ok(used);
-    }
-    match write_cell(to, Place(used), both(from, slot)) {
-        Ok(()) => Ok(used + 1),
-        Err(full) => Err(full),
-    }
-}
-
-/// The slot with another place, if it has one.
-fn redirected(slot: Slot, place: Place) -> Slot
-    ensures { Redirected place.0 slot result }
-{
-    if slot.kind < FIRST_NODE {
-        slot
-    } else {
-        place.slot(slot.kind)
-    }
-}
-
-/// How many cells a slot refers to itself: none or one.
-fn own_cells(slot: Slot) -> usize
-    ensures { result ≡ own slot }
-{
-    if slot.kind < FIRST_NODE { 0 } else { 1 }
+    let cell = from.both(node);
+    copies.put(node.kind, cell.left, cell.right)
 }

@@ -3,7 +3,9 @@
 ghost use Rattle.std.specs.Prelude.{◌≡◌, true, Ok, MatchResult};
 ghost use Rattle.store.specs.Compare.{Answers, Told, TooLarge};
 
-use crate::slot::{Cell, FIRST_NODE, Full, Place, Slot, both, read_cell, write_cell};
+use crate::cells::Cells;
+use crate::slot::{Cell, FIRST_NODE, Full, Slot};
+use crate::stack::Stack;
 
 /// What two slots tell by themselves: their trees are the same, or differ, or are if the parts are.
 #[derive(Clone, Copy)]
@@ -29,25 +31,22 @@ pub fn equal(
     ensures alike { a ≡ b → result ≡ Ok true }
 {
     let mut pair = Cell { left: a, right: b };
-    let mut depth: usize = 0;
+    let mut waiting = Stack::new(scratch);
     let mut left = budget;
     'pairs: loop {
         match compare(pair.left, pair.right) {
             Compared::Differ => return Ok(false),
-            Compared::Same => {
-                if depth == 0 {
-                    return Ok(true);
-                }
-                depth -= 1;
-                pair = read_cell(scratch, Place(depth));
-            }
+            Compared::Same => match waiting.pop() {
+                Some(next) => pair = next,
+                None => return Ok(true),
+            },
             Compared::Parts => {
                 if left == 0 {
                     return Err(Full);
                 }
                 left -= 1;
-                let one = both(words, pair.left);
-                let two = both(words, pair.right);
+                let one = words.both(pair.left);
+                let two = words.both(pair.right);
                 let rights = Cell {
                     left: one.right,
                     right: two.right,
@@ -55,10 +54,7 @@ pub fn equal(
                 if one.left == two.left {
                     pair = rights;
                 } else {
-                    match write_cell(scratch, Place(depth), rights) {
-                        Ok(()) => depth += 1,
-                        Err(full) => return Err(full),
-                    }
+                    waiting.push(rights)?;
                     pair = Cell {
                         left: one.left,
                         right: two.left,

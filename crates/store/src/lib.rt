@@ -2,15 +2,15 @@
 
 #![tactic(auto)]
 
+mod cells;
 mod collector;
 mod comparer;
 mod heap;
 mod slot;
+mod stack;
 
+pub use cells::Cells;
 pub use collector::collect;
-pub use comparer::equal;
 pub use heap::Heap;
-pub use slot::{
-    Cell, FIRST_NODE, Full, Place, Slot, both, left, read_cell, read_slot, right, write_cell,
-    write_slot,
-};
+pub use slot::{Cell, FIRST_NODE, Full, Place, Slot, read_cell, read_slot, write_cell, write_slot};
+pub use stack::Stack;

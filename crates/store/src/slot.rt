@@ -1,14 +1,13 @@
 //! Slots and cells in words: reads that are total, and writes that refuse where the words end.
 
 ghost use Rattle.std.specs.Prelude.{◌≡◌, ℕ, ◌+◌, ◌*◌, ◌<◌, ◌≤◌, length, MatchResult, slice_index};
-ghost use Rattle.store.specs.Heap.{left_of, right_of, BothOf};
 ghost use Rattle.store.specs.Slots.{cell_at, place_of, slot_at, Wrote, WroteCell};
 
-/// The first kind of a node; the kinds below are those of leaves.
+/// The first kind of a node; the kinds below are those of leaves. Kinds are numbers, since any may stand in lent words.
 pub const FIRST_NODE: u32 = 16;
 
-/// How many values a word has: a cell's number is two words, the low one first.
-const RADIX: usize = 4294967296;
+/// How many values a word has: a slot's number is two words, the low one first.
+const RADIX: u64 = 4294967296;
 
 /// Three words: a leaf's own, or a node's, whose last two are the number of its cell.
 #[derive(Clone, Copy, Debug, PartialEq, Eq)]
@@ -19,14 +18,14 @@ pub struct Slot {
 }
 
 /// Two slots.
-#[derive(Clone, Copy)]
+#[derive(Clone, Copy, Debug, PartialEq, Eq)]
 pub struct Cell {
     pub left: Slot,
     pub right: Slot,
 }
 
 /// The number of a cell.
-#[derive(Clone, Copy)]
+#[derive(Clone, Copy, Debug, PartialEq, Eq)]
 pub struct Place(pub usize);
 
 /// There is no room left.
@@ -41,11 +40,30 @@ impl Slot {
         high: 0,
     };
 
+    /// The slot of that kind with that number.
+    pub fn numbered(kind: u32, number: u64) -> Slot
+        ensures kind { result.kind ≡ kind }
+        ensures number { place_of result ≡ number }
+    {
+        Slot {
+            kind,
+            low: (number % RADIX) as u32,
+            high: (number / RADIX) as u32,
+        }
+    }
+
+    /// The number that the slot has in its last two words.
+    pub fn number(self) -> u64
+        ensures { result ≡ place_of self }
+    {
+        u64::from(self.low) + RADIX * u64::from(self.high)
+    }
+
     /// The cell that a node's slot refers to.
     pub fn place(self) -> Place
         ensures { result.0 ≡ place_of self }
     {
-        Place(self.low as usize + RADIX * self.high as usize)
+        Place(self.number() as usize)
     }
 }
 
@@ -55,11 +73,7 @@ impl Place {
         ensures kind { result.kind ≡ kind }
         ensures place { place_of result ≡ self.0 }
     {
-        Slot {
-            kind,
-            low: (self.0 % RADIX) as u32,
-            high: (self.0 / RADIX) as u32,
-        }
+        Slot::numbered(kind, self.0 as u64)
     }
 }
 
@@ -133,27 +147,6 @@ pub fn write_cell(words: &mut [u32], place: Place, cell: Cell) -> Result<(), Ful
     Ok(())
 }
 
-/// The left slot of the cell that `node` refers to.
-pub fn left(words: &[u32], node: Slot) -> Slot
-    ensures { result ≡ left_of words.now node }
-{
-    both(words, node).left
-}
-
-/// The right slot of the cell that `node` refers to.
-pub fn right(words: &[u32], node: Slot) -> Slot
-    ensures { result ≡ right_of words.now node }
-{
-    both(words, node).right
-}
-
-/// Both slots of the cell that `node` refers to.
-pub fn both(words: &[u32], node: Slot) -> Cell
-    ensures { BothOf words.now node result }
-{
-    read_cell(words, node.place())
-}
-
 /// The slot of that number, whose words are all there.
 pub fn load_slot(words: &[u32], j: usize) -> Slot
     requires { 3 * j + 3 ≤ length words.now }
@@ -180,5 +173,5 @@ pub fn set_slot(words: &mut [u32], j: usize, slot: Slot)
 fn word(words: &[u32], i: usize) -> u32
     ensures { result ≡ slice_index words.now i }
 {
-    if i < words.len() { words[i] } else { 0 }
+    words.get(i).copied().unwrap_or(0)
 }

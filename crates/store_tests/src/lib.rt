@@ -7,13 +7,13 @@ ghost use Rattle.store.specs.Heap.{stored, Den};
 ghost use Rattle.store.specs.Tree.{spine, Tree};
 ghost use Rattle.store_tests.specs.Triple.{Short, Triple};
 
-use store::{FIRST_NODE, Full, Heap, Slot};
+use store::{Cells, FIRST_NODE, Full, Heap, Slot};
 
 #[cfg(test)]
 mod tests;
 
 /// The kind of the nodes that the examples make.
-pub const PAIR: u32 = 16;
+pub const PAIR: u32 = FIRST_NODE;
 
 /// A pair of the first slot and a pair of the others; refuses where no two cells are left.
 pub fn triple(heap: &mut Heap<'_>, a: Slot, b: Slot, c: Slot) -> Result<Slot, Full>
@@ -22,26 +22,20 @@ pub fn triple(heap: &mut Heap<'_>, a: Slot, b: Slot, c: Slot) -> Result<Slot, Fu
         (λ s. Triple (stored heap.old) (stored heap.new) a b c s)
         (λ _. Short (stored heap.old) 2) }
 {
-    let rest = match heap.put(PAIR, b, c) {
-        Ok(rest) => rest,
-        Err(full) => return Err(full),
-    };
-    match heap.put(PAIR, a, rest) {
-        Ok(all) => Ok(all),
-        Err(full) => Err(full),
-    }
+    let rest = heap.put(PAIR, b, c)?;
+    heap.put(PAIR, a, rest)
 }
 
 /// The length of a list, which ends where a leaf stands in place of a node.
 pub fn spine_of(heap: &Heap<'_>, list: Slot) -> usize
     ensures { (t : Tree) → Den (stored heap.now) list t → result ≡ spine t }
 {
-    let used = heap.used;
     let mut rest = list;
-    let mut steps: usize = 0;
-    'walk: while rest.kind >= FIRST_NODE && steps < used {
+    for steps in 0..heap.used {
+        if rest.kind < FIRST_NODE {
+            return steps;
+        }
         rest = heap.right(rest);
-        steps += 1;
     }
-    steps
+    heap.used
 }

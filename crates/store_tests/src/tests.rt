@@ -3,16 +3,19 @@
 use crate::{PAIR, spine_of, triple};
 use std::alloc::{AllocError, Global};
 use std::test::Fail;
-use store::{Full, Heap, Slot, collect, read_slot, write_slot};
+use store::{Cells, Full, Heap, Slot, collect, read_slot, write_slot};
 
 /// So many words, all 0; the prover need not write them out where their number is a large literal.
 fn zeros(alloc: Global, n: usize) -> Result<Vec<u32>, AllocError> {
     vec![in alloc; 0; n]
 }
 
+/// The kind of the leaves that the examples make: any number below that of the first node.
+const NUMBER: u32 = 0;
+
 fn number(n: u32) -> Slot {
     Slot {
-        kind: 0,
+        kind: NUMBER,
         low: n,
         high: 0,
     }
@@ -22,10 +25,7 @@ fn number(n: u32) -> Slot {
 fn list(heap: &mut Heap<'_>, n: u32, end: Slot) -> Result<Slot, Full> {
     let mut all = end;
     for i in 0..n {
-        all = match heap.put(PAIR, number(i), all) {
-            Ok(all) => all,
-            Err(full) => return Err(full),
-        };
+        all = heap.put(PAIR, number(i), all)?;
     }
     Ok(all)
 }
@@ -34,10 +34,7 @@ fn list(heap: &mut Heap<'_>, n: u32, end: Slot) -> Result<Slot, Full> {
 fn shared(heap: &mut Heap<'_>, n: u32) -> Result<Slot, Full> {
     let mut all = number(7);
     for _ in 0..n {
-        all = match heap.put(PAIR, all, all) {
-            Ok(all) => all,
-            Err(full) => return Err(full),
-        };
+        all = heap.put(PAIR, all, all)?;
     }
     Ok(all)
 }

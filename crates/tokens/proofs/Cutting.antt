@@ -1,20 +1,19 @@
 -- How a text that begins with a token is cut: after its longest front of letters where it has one,
 -- after two bytes where they join, after one byte else.
-use Rattle.std.proofs.Common.{◌≡◌, ℕ, suc, ◌+◌, ◌-◌, ◌<◌, Bool, true, false, cond, ◌&&◌, ◌||◌, eqb, ◌⊎◌, List, [], ◌∷◌, ◌++◌, length, get_or, take, drop, sym, refl, ap, ◌∙◌, subst, inl, inr, append_assoc, append-nil, add-zero, one-add, arith, Bor}
+use Rattle.std.proofs.Common.{◌≡◌, ℕ, suc, ◌+◌, ◌<◌, true, false, cond, ◌⊎◌, List, [], ◌∷◌, ◌++◌, length, get_or, take, drop, sym, refl, ap, ◌∙◌, inl, inr, append_assoc, append-nil, one-add, arith, Bor}
 use Rattle.std.specs.List.{prefix_len}
-use Rattle.std.proofs.lemmas.Bool.{cases_Bool, and_from, false≢true}
+use Rattle.std.proofs.lemmas.Bool.{cases_Bool, and_from}
 use Rattle.meaning.specs.Basics.{Name}
 use Rattle.meaning.specs.Grammar.{all_letters}
-use Rattle.meaning.specs.Tokens.{is_letter, begins_sign, joins, gap, word, sign, tokens}
-use Rattle.std.proofs.lemmas.List.{take-append-drop, length-take-le, length-append, length-drop, get_or-drop}
+use Rattle.meaning.specs.Tokens.{is_letter, begins_sign, gap, word, sign, tokens}
+use Rattle.std.proofs.lemmas.List.{take-append-drop, length-take-le, length-append}
 use Rattle.std.proofs.lemmas.List.Sums.{prefix_len-le-length}
 use Rattle.tokens.specs.declared.token.Lexeme.{Lexeme}
-use Rattle.tokens.specs.declared.token.Sign.{Sign}
 use Rattle.tokens.specs.declared.token.Sign.TheVariants.{Arrow, DoubleColon, Equal, Unequal, AtMost}
 use Rattle.tokens.specs.declared.token.Token.{Token}
 use Rattle.tokens.specs.declared.token.Token.TheVariants as token
-use Rattle.tokens.specs.Cutting.{sign_bytes, spelling, Begins, Proper, Starts, Joined, Unjoined, Leads, First}
-use Rattle.tokens.proofs.Reading.{word_begins, word_more, word_ends, sign_begins, sign_joins, sign_alone, byte_alone}
+use Rattle.tokens.specs.Cutting.{spelling, Begins, Proper, Starts, Unjoined, Leads, First}
+use Rattle.tokens.proofs.Reading.{word_begins, word_more, word_ends, sign_begins, sign_alone, byte_alone}
 
 -- the longest front of letters
 abbrev pub front : List ℕ → Name
@@ -81,11 +80,6 @@ pub take-one : (t : List ℕ) → 0 < length t → take 1 t ≡ get_or t 0 0 ∷
 take-one [] h = absurd (omega (arith, h))
 take-one (c ∷ t) h = refl
 
-pub take-two : (t : List ℕ) → 1 < length t → take 2 t ≡ get_or t 0 0 ∷ get_or t 1 0 ∷ []
-take-two [] h = absurd (omega (arith, h))
-take-two (c ∷ []) h = absurd (omega (arith, h))
-take-two (c ∷ d ∷ t) h = refl
-
 pub word_cut : (t : List ℕ) → 0 < prefix_len is_letter t → Begins (get_or t 0 0)
     → tokens gap t ≡ front t ∷ tokens gap (behind t)
 word_cut [] h b = absurd (omega (arith, h))
@@ -93,25 +87,6 @@ word_cut (c ∷ t) h b =
     let r : is_letter c ≡ true = letter_first c t h in
     word_begins c t b r ∙ (word_reads (c ∷ []) t
     ∙ ap (λ n. take n (c ∷ t) ∷ tokens gap (drop n (c ∷ t))) (sym (leading_yes c t r)))
-
--- the first of two bytes that join is one that begins a sign
-pub begins_from_joins : (d c : ℕ) → joins d c ≡ true → begins_sign d ≡ true
-begins_from_joins d c e = way (eqb d 45) (eqb c 62) (eqb d 58) (eqb c 58) (eqb c 61)
-    (eqb d 61 || (eqb d 33 || eqb d 60)) e
-  where
-    way : (dash greater colon second equals other : Bool)
-        → ((dash && greater) || ((colon && second) || (equals && other))) ≡ true → (dash || (colon || other)) ≡ true
-    way true greater colon second equals other e = refl
-    way false greater true second equals other e = refl
-    way false greater false second true other e = e
-    way false greater false second false other e = absurd (false≢true e)
-
-pub sign_cut : (t : List ℕ) → 1 < length t → prefix_len is_letter t ≡ 0 → Begins (get_or t 0 0)
-    → joins (get_or t 0 0) (get_or t 1 0) ≡ true → tokens gap t ≡ (get_or t 0 0 ∷ get_or t 1 0 ∷ []) ∷ tokens gap (drop 2 t)
-sign_cut [] h n b j = absurd (omega (arith, h))
-sign_cut (c ∷ []) h n b j = absurd (omega (arith, h))
-sign_cut (c ∷ d ∷ t) h n b j = sign_begins c (d ∷ t) b (no_letter_first c (d ∷ t) n) (begins_from_joins c d j)
-    ∙ sign_joins c d t j
 
 pub byte_cut : (t : List ℕ) → 0 < length t → prefix_len is_letter t ≡ 0 → Begins (get_or t 0 0) → Unjoined t
     → tokens gap t ≡ (get_or t 0 0 ∷ []) ∷ tokens gap (drop 1 t)
@@ -141,19 +116,6 @@ word_leads t n w rest is some b front-is rest-is =
       proper = (omega (arith, ap length letters), ap all_letters letters ∙ front_letters t);
     }
 
-pub sign_leads : (t rest : List ℕ) (s : Sign) → prefix_len is_letter t ≡ 0 → Begins (get_or t 0 0) → Joined t s
-    → rest ≡ drop 2 t → Leads t (token.Sign s) rest
-sign_leads t rest s n b j rest-is =
-    record {
-      place = sym (take-append-drop 2 t)
-          ∙ (ap (λ u. u ++ drop 2 t) (take-two t j.two ∙ sym j.bytes)
-          ∙ sym (ap (λ u. sign_bytes s ++ u) rest-is));
-      cut = sign_cut t j.two n b j.join
-          ∙ (sym (ap (λ v. v ∷ tokens gap (drop 2 t)) j.bytes)
-          ∙ sym (ap (λ u. sign_bytes s ∷ tokens gap u) rest-is));
-      proper = tt;
-    }
-
 pub byte_leads : (t rest : List ℕ) → 0 < length t → prefix_len is_letter t ≡ 0 → Begins (get_or t 0 0) → Unjoined t
     → rest ≡ drop 1 t → Leads t (token.Byte (get_or t 0 0)) rest
 byte_leads t rest h n b j rest-is =
@@ -173,13 +135,6 @@ spelled (token.Sign Equal) p = omega arith
 spelled (token.Sign Unequal) p = omega arith
 spelled (token.Sign AtMost) p = omega arith
 spelled (token.Byte b) p = omega arith
-
-pub starts_leads : (t u : List ℕ) (n : ℕ) → Starts t n → u ≡ drop n t → (0 < length u) × Begins (get_or u 0 0)
-starts_leads t u n s is =
-    let here : get_or t n 0 ≡ get_or u 0 0 =
-    sym (ap (λ v. get_or v 0 0) is ∙ (get_or-drop n t 0 0 ∙ ap (λ k. get_or t k 0) (add-zero n))) in
-    let left : length u ≡ length t - n = ap length is ∙ length-drop n t in
-    (omega (arith, s.within), subst Begins here s.begins)
 
 pub first_token : (t u : List ℕ) (l : Lexeme) → Starts t l.skipped → u ≡ drop l.skipped t
     → Leads u l.token l.rest.now → First t l

@@ -2,3 +2,4 @@ pub mod Reading
 pub mod Cutting
 pub mod Skipping
 pub mod Placing
+pub mod Yielding

@@ -5,21 +5,21 @@ ghost use Rattle.tokens.specs.Cutting.{Makes};
 
 use super::token::Sign;
 
+/// The bytes that a name has at most.
+pub const LONGEST_NAME: usize = 32;
+
 /// Is the byte a letter, a digit or `_`?
 pub fn is_letter(byte: u8) -> bool
     ensures { result ≡ is_letter byte }
 {
-    (byte >= b'a' && byte <= b'z')
-        || (byte >= b'A' && byte <= b'Z')
-        || byte == b'_'
-        || (byte >= b'0' && byte <= b'9')
+    byte.is_ascii_alphanumeric() || byte == b'_'
 }
 
 /// Does the byte only part tokens: a blank, LF, CR or a tab?
 pub fn is_blank(byte: u8) -> bool
     ensures { result ≡ is_blank byte }
 {
-    byte == b' ' || byte == b'\n' || byte == b'\r' || byte == b'\t'
+    matches!(byte, b' ' | b'\n' | b'\r' | b'\t')
 }
 
 /// The sign that two bytes make, if they make one.

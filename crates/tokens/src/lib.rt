@@ -3,10 +3,13 @@
 #![tactic(auto)]
 
 mod bytes;
+mod lexemes;
 mod next;
 mod position;
 mod token;
 
+pub use bytes::{LONGEST_NAME, is_letter};
+pub use lexemes::Lexemes;
 pub use next::next_token;
 pub use position::Position;
 pub use token::{Lexeme, Sign, Token};

@@ -1,9 +1,9 @@
 //! Lines and columns, for messages.
-ghost use Rattle.std.specs.Prelude.{take};
+ghost use Rattle.std.specs.Prelude.{[], ◌∷◌, take};
 ghost use Rattle.tokens.specs.Position.{Behind, Passes};
 
 /// A line and a column of a text, each counted from 1.
-#[derive(Clone, Copy, PartialEq, Debug)]
+#[derive(Clone, Copy, PartialEq, Eq, Debug)]
 pub struct Position {
     pub line: usize,
     pub column: usize,
@@ -18,23 +18,32 @@ impl Position {
         ensures { Behind (take at text.now) result.line result.column }
     {
         let end = at.min(text.len());
-        Position::START.past(&text[0..end])
+        Position::START.past(&text[..end])
     }
 
     /// The position behind these bytes, where they stand at this one.
     pub fn past(self, bytes: &[u8]) -> Position
         ensures { Passes self.line self.column bytes.now result.line result.column }
     {
-        let mut line = self.line;
-        let mut column = self.column;
-        for byte in bytes {
-            if *byte == b'\n' {
-                line = line.saturating_add(1);
-                column = 1;
-            } else {
-                column = column.saturating_add(1);
+        bytes
+            .iter()
+            .fold(self, |position, byte| position.past_byte(*byte))
+    }
+
+    // The position behind one byte.
+    fn past_byte(self, byte: u8) -> Position
+        ensures { Passes self.line self.column (byte ∷ []) result.line result.column }
+    {
+        if byte == b'\n' {
+            Position {
+                line: self.line.saturating_add(1),
+                column: 1,
+            }
+        } else {
+            Position {
+                column: self.column.saturating_add(1),
+                ..self
             }
         }
-        Position { line, column }
     }
 }

@@ -1,16 +1,14 @@
 use std::alloc::{AllocError, Global};
 use std::process::Abort;
 use std::test::Fail;
-use tokens::{Position, Token, next_token};
+use tokens::{Lexemes, Position, Token};
 
 // The tokens of a text, each behind a blank, signs in round brackets.
 fn written(heap: Global, text: &[u8]) -> Result<Vec<u8>, AllocError> {
     let mut all = Vec::new(heap);
-    let mut rest = text;
-    while let Some(lexeme) = next_token(rest) {
+    for lexeme in Lexemes::new(text) {
         all.push(b' ')?;
         add(&mut all, lexeme.token)?;
-        rest = lexeme.rest;
     }
     Ok(all)
 }
@@ -29,7 +27,7 @@ fn add(all: &mut Vec<u8>, token: Token<'_>) -> Result<(), AllocError> {
 }
 
 fn is_cut(rt: &impl Abort, heap: Global, text: &[u8], expected: &[u8]) -> Result<(), Fail> {
-    assert!(rt; written(heap, text)?.as_slice() == expected);
+    assert_eq!(rt; written(heap, text)?.as_slice(), expected);
     Ok(())
 }
 

@@ -1,11 +1,12 @@
--- The text of a number, as values have it, is the one that the library knows: so its laws serve.
-use Rattle.std.proofs.Common.{◌≡◌, ℕ, suc, ◌+◌, ◌-◌, ◌/◌, ◌%◌, ◌^◌, ◌<◌, ◌≤◌, List, [], ◌∷◌, ◌++◌, length, set, ℤ, pos, negsuc, nat_abs, ◌<ℤ◌, decimal as spelled, sym, refl, ap, ◌∙◌, append-nil, arith, length-append, rules}
+-- The text of a number, as values have it, is the one that the library knows: so the digits that it writes into a buffer
+-- are the number's text there, before which a sign may be set.
+use Rattle.std.proofs.Common.{◌≡◌, ℕ, suc, ◌-◌, ◌^◌, ◌<◌, ◌≤◌, List, [], ◌∷◌, ◌++◌, length, drop, set, take, ℤ, pos, negsuc, nat_abs, ◌<ℤ◌, decimal as spelled, sym, refl, ap, ◌∙◌, append-nil, arith, length-set, rules}
+use lib.ListN.{drop_of_length-le}
+use borrow.Rule.Slice.PartMut.{mid_of}
 use Rattle.std.proofs.lemmas.Int.{ints}
-use Rattle.std.proofs.lemmas.Fmt.{PrependsLastDigit, decimal_from_prepends, decimal_step, decimal_digit, length-decimal-le, length-decimal-le_succ}
+use Rattle.std.proofs.lemmas.Fmt.{PrependsLastDigit, decimal_from_prepends, length-decimal-le_succ}
+use Rattle.std.proofs.lemmas.List.{take_rest, drop-set}
 use Rattle.meaning.specs.Values.{decimal, digits}
-use Rattle.values.specs.Output.{written}
-use Rattle.values.specs.Pieces.{worker_text}
-use Rattle.values.proofs.Outputs.{written_byte, written-before, written_after, length-written}
 
 digits_spell : PrependsLastDigit digits
 digits_spell = search rules
@@ -14,91 +15,44 @@ pub decimal_is : (n : ℕ) → n < 2 ^ 64 → decimal (pos n) ≡ spelled n
 decimal_is n h = decimal_from_prepends digits digits_spell (suc n) n [] h (omega (arith, length-decimal-le_succ n h))
     ∙ append-nil (spelled n)
 
-pub decimal_negative : (n : ℕ) → suc n < 2 ^ 64 → decimal (negsuc n) ≡ 45 ∷ decimal (pos (suc n))
-decimal_negative n h = refl
+pub decimal_negative : (z : ℤ) (size : ℕ) → z <ℤ pos 0 → size ≡ nat_abs z → 45 ∷ decimal (pos size) ≡ decimal z
+decimal_negative (pos n) size l e = absurd (omega (arith, ints))
+decimal_negative (negsuc n) size l e = ap (λ k. 45 ∷ decimal (pos k)) e
 
--- one digit is taken off
-pub decimal_more : (n : ℕ) → 10 ≤ n → n < 2 ^ 64 → decimal (pos n) ≡ decimal (pos (n / 10)) ++ ((48 + n % 10) ∷ [])
-decimal_more n b h = decimal_is n h
-    ∙ (decimal_step n b h ∙ ap (λ t. t ++ ((48 + n % 10) ∷ [])) (sym (decimal_is (n / 10) (omega arith))))
+pub decimal_positive : (z : ℤ) (size : ℕ) → (z <ℤ pos 0 → ⊥) → size ≡ nat_abs z → decimal (pos size) ≡ decimal z
+decimal_positive (pos n) size l e = ap (λ k. decimal (pos k)) e
+decimal_positive (negsuc n) size l e = absurd (l (omega (arith, ints)))
 
-pub decimal-one : (n : ℕ) → n < 10 → decimal (pos n) ≡ (48 + n) ∷ []
-decimal-one n b = decimal_is n (omega arith) ∙ decimal_digit n b
+-- a buffer of k bytes from the place i on
+pub rest_of : (k i : ℕ) (xs : List ℕ) → length xs ≡ k → mid_of i (k - i) xs ≡ drop i xs
+rest_of k i xs e = ap (λ n. mid_of i (n - i) xs) (sym e) ∙ take_rest xs i
 
-pub length-decimal : (n : ℕ) → n < 2 ^ 64 → length (decimal (pos n)) ≤ 20
-length-decimal n h = omega (arith, ap length (decimal_is n h), length-decimal-le 20 n (omega arith) (omega arith) h)
+-- .. and with a sign before that place
+pub rest_signed : (k i sign : ℕ) (xs : List ℕ) → length xs ≡ k → 1 ≤ i → i ≤ k →
+    mid_of (i - 1) (k - (i - 1)) (set xs (i - 1) sign) ≡ sign ∷ drop i xs
+rest_signed k i sign xs e low high =
+    rest_of k (i - 1) (set xs (i - 1) sign) (length-set xs (i - 1) sign ∙ e) ∙ (drop-set xs (i - 1) sign (omega arith)
+    ∙ ap (λ n. sign ∷ drop n xs) (omega arith))
 
-pub length-decimal_more : (n : ℕ) → 10 ≤ n → n < 2 ^ 64 →
-    length (decimal (pos n)) ≡ length (decimal (pos (n / 10))) + 1
-length-decimal_more n b h = ap length (decimal_more n b h)
-    ∙ length-append (decimal (pos (n / 10))) ((48 + n % 10) ∷ [])
+-- the digits of n at the end of a buffer, ..
+pub number_spelled : (old new : List ℕ) (i n : ℕ) → n < 2 ^ 64 → length old ≡ 22 → drop i new ≡ spelled n ++ drop 22 old
+    → drop i new ≡ decimal (pos n)
+number_spelled old new i n h e w =
+    w ∙ (ap (λ t. spelled n ++ t) (drop_of_length-le old {i = 22} (omega arith)) ∙ (append-nil (spelled n) ∙ sym (decimal_is n h)))
 
--- the steps of a loop that counts digits, ..
-pub count_again : (count rest : ℕ) {total : ℕ} → rest < 2 ^ 64 → 10 ≤ rest →
-    count + length (decimal (pos rest)) ≡ total
-    → count + 1 + length (decimal (pos (rest / 10))) ≡ total
-count_again count rest h b e = sym (omega (arith, length-decimal_more rest b h)) ∙ e
+-- .. and before a sign there
+pub worker_spelled : (old new : List ℕ) (i n : ℕ) → n < 2 ^ 64 → length old ≡ 22 →
+    drop i new ≡ spelled n ++ drop 21 (set old 21 62) → drop i new ≡ decimal (pos n) ++ (62 ∷ [])
+worker_spelled old new i n h e w =
+    w ∙ (ap (λ t. spelled n ++ t) (drop-set old 21 62 (omega arith)
+    ∙ ap (λ t. 62 ∷ t) (drop_of_length-le old {i = 22} (omega arith))) ∙ ap (λ t. t ++ (62 ∷ [])) (sym (decimal_is n h)))
 
-pub count_last : (count rest : ℕ) {total : ℕ} → rest < 10 → count + length (decimal (pos rest)) ≡ total + 1 →
-    count ≡ total
-count_last count rest b e = omega (arith, ap length (decimal-one rest b), e)
+-- the first bytes of a buffer that were set
+pub one_set : (xs : List ℕ) (a : ℕ) → 0 < length xs → take 1 (set xs 0 a) ≡ a ∷ []
+one_set [] a h = absurd (omega arith)
+one_set (x ∷ xs) a h = refl
 
--- .. and of one that writes them, the last one first
-pub digit_room : (rest at end : ℕ) → rest < 2 ^ 64 → 10 ≤ rest → end ≡ at + length (decimal (pos rest)) →
-    end - 1 ≡ at + length (decimal (pos (rest / 10)))
-digit_room rest at end h b e = omega (arith, length-decimal_more rest b h, e)
-
-pub digit_written : (out : List ℕ) (rest at end : ℕ) {all : List ℕ} → rest < 2 ^ 64 → 10 ≤ rest →
-    end ≡ at + length (decimal (pos rest)) → end ≤ length out
-    → written out at (decimal (pos rest)) ≡ all →
-    written (set out (end - 1) (48 + rest % 10)) at (decimal (pos (rest / 10))) ≡ all
-digit_written out rest at end h b e l w =
-    let room = digit_room rest at end h b e in
-    let more = length-decimal_more rest b h in
-    ap (λ q. written q at (decimal (pos (rest / 10))))
-    (ap (λ i. set out i (48 + rest % 10)) room
-    ∙ written_byte out (at + length (decimal (pos (rest / 10)))) (48 + rest % 10) (omega (arith, room, more, e)))
-    ∙ (written-before out at (decimal (pos (rest / 10))) ((48 + rest % 10) ∷ []) (omega (arith, room, more, e))
-    ∙ (ap (written out at) (sym (decimal_more rest b h)) ∙ w))
-
-pub digit_last : (out : List ℕ) (rest at end : ℕ) {all : List ℕ} → rest < 10 →
-    end ≡ at + length (decimal (pos rest)) → end ≤ length out
-    → written out at (decimal (pos rest)) ≡ all → set out at (48 + rest) ≡ all
-digit_last out rest at end b e l w =
-    written_byte out at (48 + rest) (omega (arith, ap length (decimal-one rest b), e))
-    ∙ (ap (written out at) (sym (decimal-one rest b)) ∙ w)
-
--- a sign and the digits after it
-pub sign_written : (out : List ℕ) (at n : ℕ) → at + length (decimal (negsuc n)) ≤ length out
-    → written (set out at 45) (at + 1) (decimal (pos (suc n))) ≡ written out at (decimal (negsuc n))
-sign_written out at n h =
-    ap (λ q. written q (at + 1) (decimal (pos (suc n)))) (written_byte out at 45 (omega arith))
-    ∙ written_after out at (45 ∷ []) (decimal (pos (suc n))) (omega arith)
-
-pub negative_written : (out : List ℕ) (at : ℕ) (z : ℤ) (size : ℕ) → z <ℤ pos 0 → size ≡ nat_abs z →
-    at + length (decimal z) ≤ length out
-    → written (set out at 45) (at + 1) (decimal (pos size)) ≡ written out at (decimal z)
-negative_written out at (pos n) size l e h = absurd (omega (arith, ints))
-negative_written out at (negsuc n) size l e h =
-    ap (λ k. written (set out at 45) (at + 1) (decimal (pos k))) e ∙ sign_written out at n h
-
--- a worker's text
-pub length_worker : (n : ℕ) → length (worker_text n) ≡ 2 + length (decimal (pos n))
-length_worker n = omega (arith, length-append (decimal (pos n)) (62 ∷ []))
-
-pub worker_digits : (out : List ℕ) (at n : ℕ) → at + length (worker_text n) ≤ length out
-    → written (set out at 60) (at + 1) (decimal (pos n)) ≡ written out at (60 ∷ decimal (pos n))
-worker_digits out at n h =
-    ap (λ q. written q (at + 1) (decimal (pos n))) (written_byte out at 60 (omega (arith, length_worker n)))
-    ∙ written_after out at (60 ∷ []) (decimal (pos n)) (omega arith)
-
-pub worker_written : (out : List ℕ) (at n count : ℕ) → at + length (worker_text n) ≤ length out →
-    count ≡ length (decimal (pos n))
-    → set (written (set out at 60) (at + 1) (decimal (pos n))) (at + 1 + count) 62 ≡ written out at (worker_text n)
-worker_written out at n count h e =
-    let long = length-written out at (60 ∷ decimal (pos n)) (omega (arith, length_worker n)) in
-    ap (λ q. set q (at + 1 + count) 62) (worker_digits out at n h)
-    ∙ (written_byte (written out at (60 ∷ decimal (pos n))) (at + 1 + count) 62
-    (omega (arith, long, length_worker n, e))
-    ∙ (ap (λ k. written (written out at (60 ∷ decimal (pos n))) k (62 ∷ [])) (omega (arith, e))
-    ∙ written_after out at (60 ∷ decimal (pos n)) (62 ∷ []) (omega arith)))
+pub two_set : (xs : List ℕ) (a b : ℕ) → 1 < length xs → take 2 (set (set xs 0 a) 1 b) ≡ a ∷ b ∷ []
+two_set [] a b h = absurd (omega arith)
+two_set (x ∷ []) a b h = absurd (omega arith)
+two_set (x ∷ y ∷ xs) a b h = refl

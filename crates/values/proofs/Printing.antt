@@ -1,91 +1,60 @@
--- A walk counts, or writes, the pieces of a text until none is left; what it has written and what is left are the text.
+-- A walk lays the pieces of a text one behind another until none is left; what is laid and what is left are the text.
 -- If it was measured, it fits, and the walk that writes is the same as the one that measured: so it is not refused.
-use Rattle.std.proofs.Common.{◌≡◌, ℕ, ◌+◌, ◌-◌, ◌*◌, ◌/◌, ◌^◌, ◌<◌, ◌≤◌, max, List, [], ◌++◌, length, Ok, Err, sym, refl, ap, ◌∙◌, subst, append_assoc, append-nil, arith, length-append}
+use Rattle.std.proofs.Common.{◌≡◌, ℕ, ◌+◌, ◌*◌, ◌^◌, ◌<◌, ◌≤◌, Bool, true, false, List, [], ◌++◌, length, Some, None, Ok, Err, Option, Result, sym, refl, ap, ◌∙◌, subst, append_assoc, append-nil, arith, length-append}
+use Rattle.std.specs.Bool.{OnFalse}
 use Rattle.meaning.specs.Basics.{Name}
-use Rattle.store.specs.Heap.{store_of}
-use Rattle.values.specs.Output.{written}
+use Rattle.meaning.specs.Values.{Value, text_v}
+use Rattle.store.specs.Heap.{Store, store_of}
+use Rattle.store.specs.Stack.{waiting}
+use Rattle.store.specs.declared.slot.Cell.{Cell}
+use Rattle.store.specs.declared.slot.Slot.{Slot}
+use Rattle.values.specs.Encoding.{Holds, tree_v}
 use Rattle.values.specs.Pieces.{piece_text}
-use Rattle.values.specs.Print.{StandsInText, Unfit, Counting, Writing}
-use Rattle.values.specs.Walk.{Remains, Steps, Moves, rank}
+use Rattle.values.specs.Print.{Unfit, UnprintedValue, Measured, laid, Laid, Laying}
+use Rattle.values.specs.Walk.{nesting, Remains, After, Steps}
 use Rattle.values.specs.declared.piece.Piece.{Piece}
 use Rattle.values.specs.declared.walk.Cursor.{Cursor}
-use Rattle.values.specs.declared.walk.Step.{Step}
-use Rattle.values.specs.declared.walk.Step.TheVariants.{More, End}
+use Rattle.values.specs.declared.walk.Walk.{Walk}
 use Rattle.values.specs.declared.walk.Unprinted.{Unprinted}
 use Rattle.values.specs.declared.walk.Unprinted.TheVariants.{TooLong, TooDeep}
 use Rattle.values.proofs.Outputs.{written_none, written_after}
 
-pub steps_is : {words scratch scratch' : List ℕ} {c : Cursor} {s t : Step} → s ≡ t →
-    Steps words scratch scratch' c (Ok s) → Steps words scratch scratch' c (Ok t)
-steps_is {words} {scratch} {scratch'} {c} e k = subst (λ (q : Step). Steps words scratch scratch' c (Ok q)) e k
+laid_none : (writes : Bool) (out : List ℕ) (at : ℕ) → laid writes out at [] ≡ out
+laid_none true out at = written_none out at
+laid_none false out at = refl
 
--- what a step leaves of the need for cells, and what was left before
-deep_on : (old new a b c : ℕ) → new ≡ old → max (old / 6) a ≡ max (old / 6) b → max (new / 6) b ≡ max (new / 6) c →
-    max (new / 6) a ≡ max (new / 6) c
-deep_on old new a b c l e f = subst (λ n. max (n / 6) a ≡ max (n / 6) b) (sym l) e ∙ f
+laid_after : (writes : Bool) (out : List ℕ) (at : ℕ) (xs ys : List ℕ) → at ≤ length out →
+    laid writes (laid writes out at xs) (at + length xs) ys ≡ laid writes out at (xs ++ ys)
+laid_after true out at xs ys h = written_after out at xs ys h
+laid_after false out at xs ys h = refl
 
-pub counting_start : {ns : List Name} {words scratch : List ℕ} {used : ℕ} {c : Cursor} {at : ℕ} {text : List ℕ}
-    {need : ℕ} → Remains ns (store_of words used) scratch c text need →
-    Counting ns (store_of words used) scratch c at at text need
-counting_start {ns} {words} {scratch} {used} {c} {at} {text} {need} r =
-    record { text' = text; need' = need; stands = r; long = refl; deep = refl }
+pub unwritten_start : (writes : Bool) (out : List ℕ) → OnFalse writes (out ≡ out)
+unwritten_start true out = tt
+unwritten_start false out = refl
 
-pub counting_more : {ns : List Name} {words scratch scratch' : List ℕ} {used : ℕ} {c : Cursor} {at end : ℕ}
-    {text : List ℕ} {need : ℕ} (p : Piece) (c' : Cursor) (n : ℕ) → Steps words scratch scratch' c (Ok (More p c')) →
-    length scratch' ≡ length scratch
-    → n ≡ length (piece_text ns p) → Counting ns (store_of words used) scratch c at end text need
-    → Counting ns (store_of words used) scratch' c' at (end + n) text need
-counting_more {ns} {words} {scratch} {scratch'} {used} {c} {at} {end} {text} {need} p c' n s l e k =
-    let g = s.so k.stands in
-    record {
-      text' = g.text';
-      need' = g.need';
-      stands = g.stands;
-      long = omega (arith, k.long, ap length g.text_is, length-append (piece_text ns p) g.text', e);
-      deep = deep_on (length scratch) (length scratch') need k.need' g.need' l k.deep g.need_is;
-    }
+unwritten_more : (writes : Bool) (out out' out'' : List ℕ) (at : ℕ) (bytes : List ℕ) → OnFalse writes (out' ≡ out) →
+    out'' ≡ laid writes out' at bytes → OnFalse writes (out'' ≡ out)
+unwritten_more true out out' out'' at bytes f l = tt
+unwritten_more false out out' out'' at bytes f l = l ∙ f
 
-pub counting_end : {ns : List Name} {words scratch scratch' : List ℕ} {used : ℕ} {c : Cursor} {at end : ℕ}
-    {text : List ℕ} {need : ℕ} → Steps words scratch scratch' c (Ok End) →
-    Counting ns (store_of words used) scratch c at end text need
-    → (end ≡ at + length text) × (6 * need ≤ length scratch)
-counting_end {ns} {words} {scratch} {scratch'} {used} {c} {at} {end} {text} {need} s k =
-    let g = s.so k.stands in (omega (arith, k.long, ap length g.0), omega (arith, k.deep, g.1))
+pub steps_is : {w w' : Walk} {s t : Option Piece} → s ≡ t → Steps w w' (Ok s) → Steps w w' (Ok t)
+steps_is {w} {w'} e k = subst (λ (q : Option Piece). Steps w w' (Ok q)) e k
 
--- the rest of the text is not within the limit
-pub counting_long : {ns : List Name} {words scratch scratch' : List ℕ} {used : ℕ} {c : Cursor} {at end : ℕ}
-    {text : List ℕ} {need : ℕ} (p : Piece) (c' : Cursor) (n limit : ℕ) →
-    Steps words scratch scratch' c (Ok (More p c')) → n ≡ length (piece_text ns p)
-    → limit < end + n → Counting ns (store_of words used) scratch c at end text need → limit < at + length text
-counting_long {ns} {words} {scratch} {scratch'} {used} {c} {at} {end} {text} {need} p c' n limit s e b k =
-    let g = s.so k.stands in omega
-    (arith, k.long, ap length g.text_is, length-append (piece_text ns p) g.text', e)
+-- what a step of the walk w in these words, with this room on its stack, says
+said : {words : List ℕ} {room : ℕ} {w w' : Walk} {r : Result (Option Piece) Unprinted} {ns : List Name} {used : ℕ}
+    {text : List ℕ} {need : ℕ} → w.words.now ≡ words → length w.stack.words.now ≡ room → Steps w w' r →
+    Remains ns (store_of words used) room (waiting w.stack) w.cursor text need
+    → After ns (store_of words used) room (waiting w'.stack) w'.cursor text need r
+said {words} {room} {w} {w'} {r} {ns} {used} {text} {need} e l s =
+    subst (λ (q : List ℕ). Remains ns (store_of q used) room (waiting w.stack) w.cursor text need
+    → After ns (store_of q used) room (waiting w'.stack) w'.cursor text need r) e
+    (subst (λ n. Remains ns (store_of w.words.now used) n (waiting w.stack) w.cursor text need
+    → After ns (store_of w.words.now used) n (waiting w'.stack) w'.cursor text need r) l s.so)
 
-pub counting_refused : {ns : List Name} {words scratch scratch' : List ℕ} {used : ℕ} {c : Cursor} {at end : ℕ}
-    {text : List ℕ} {need : ℕ} (why : Unprinted) (limit : ℕ) (whole : List ℕ) → length whole ≡ length scratch →
-    Steps words scratch scratch' c (Err why) → length scratch' ≡ length scratch → limit < 2 ^ 64
-    → Counting ns (store_of words used) scratch c at end text need → Unfit at limit whole text need why
-counting_refused {ns} {words} {scratch} {scratch'} {used} {c} {at} {end} {text} {need} TooLong limit whole w s l b
-    k = omega (arith, s.so k.stands, k.long)
-counting_refused {ns} {words} {scratch} {scratch'} {used} {c} {at} {end} {text} {need} TooDeep limit whole w s l b
-    k = omega (arith, s.so k.stands, k.deep, l)
-
-pub counted : {ns : List Name} {words scratch : List ℕ} {used : ℕ} {c : Cursor} {at end : ℕ} {text : List ℕ}
-    {need : ℕ} (out out' : List ℕ) → Writing ns (store_of words used) scratch c out out' at end text need →
-    Counting ns (store_of words used) scratch c at end text need
-counted {ns} {words} {scratch} {used} {c} {at} {end} {text} {need} out out' k =
-    record {
-      text' = k.text';
-      need' = k.need';
-      stands = k.stands;
-      deep = k.deep;
-      long = omega (arith, ap length k.text_is, length-append k.front k.text', k.end_is);
-    }
-
-pub writing_start : {ns : List Name} {words scratch : List ℕ} {used : ℕ} {c : Cursor} {at : ℕ} {text : List ℕ}
-    {need : ℕ} (out : List ℕ) → Remains ns (store_of words used) scratch c text need →
-    Writing ns (store_of words used) scratch c out out at at text need
-writing_start {ns} {words} {scratch} {used} {c} {at} {text} {need} out r =
+pub laying_start : {ns : List Name} {words : List ℕ} {room : ℕ} {xs : List Cell} {used : ℕ} {c : Cursor} {at : ℕ}
+    {text : List ℕ} {need : ℕ} (writes : Bool) (out : List ℕ) → Remains ns (store_of words used) room xs c text need →
+    Laying writes ns (store_of words used) room xs c out out at at text need
+laying_start {at = at} {text = text} {need = need} writes out r =
     record {
       front = [];
       text' = text;
@@ -93,55 +62,104 @@ writing_start {ns} {words} {scratch} {used} {c} {at} {text} {need} out r =
       stands = r;
       text_is = refl;
       end_is = omega arith;
-      bytes =
-          sym (written_none out at);
+      bytes = sym (laid_none writes out at);
       deep = refl;
     }
 
-pub writing_more : {ns : List Name} {words scratch scratch' : List ℕ} {used : ℕ} {c : Cursor} {at end : ℕ}
-    {text : List ℕ} {need : ℕ} (out out' out'' : List ℕ) (p : Piece) (c' : Cursor) (n : ℕ) →
-    Steps words scratch scratch' c (Ok (More p c')) → length scratch' ≡ length scratch
-    → n ≡ length (piece_text ns p) → at ≤ length out → out'' ≡ written out' end (piece_text ns p)
-    → Writing ns (store_of words used) scratch c out out' at end text need →
-    Writing ns (store_of words used) scratch' c' out out'' at (end + n) text need
-writing_more {ns} {words} {scratch} {scratch'} {used} {c} {at} {end} {text} {need} out out' out'' p c' n s l e b w k =
-    let g = s.so k.stands in
+-- what is laid and what is left are as long as the text
+long : {writes : Bool} {ns : List Name} {m : Store} {room : ℕ} {xs : List Cell} {c : Cursor} {out out' : List ℕ}
+    {at end : ℕ} {text : List ℕ} {need : ℕ} (k : Laying writes ns m room xs c out out' at end text need) →
+    at + length text ≡ end + length k.text'
+long k = omega (arith, ap length k.text_is, length-append k.front k.text', k.end_is)
+
+-- the steps of a walk w that has laid the text so far
+module _ {writes : Bool} {ns : List Name} {words : List ℕ} {room used : ℕ} {w w' : Walk} {out out' : List ℕ} {at end : ℕ}
+    {text : List ℕ} {need : ℕ} (same : w.words.now ≡ words) (wide : length w.stack.words.now ≡ room)
+    (k : Laying writes ns (store_of words used) room (waiting w.stack) w.cursor out out' at end text need) where
+  laying_more : (out'' : List ℕ) (p : Piece) (n : ℕ) → Steps w w' (Ok (Some p)) →
+      n ≡ length (piece_text ns p) → at ≤ length out → out'' ≡ laid writes out' end (piece_text ns p)
+      → Laying writes ns (store_of words used) room (waiting w'.stack) w'.cursor out out'' at (end + n) text need
+  laying_more out'' p n s e b l =
+      let g = said same wide s k.stands in
+      record {
+        front = k.front ++ piece_text ns p;
+        text' = g.text';
+        need' = g.need';
+        stands = g.stands;
+        text_is = k.text_is ∙ (ap (λ t. k.front ++ t) g.text_is
+            ∙ sym (append_assoc k.front (piece_text ns p) g.text'));
+        end_is = omega (arith, k.end_is, e, length-append k.front (piece_text ns p));
+        bytes = l ∙ (ap (λ q. laid writes q end (piece_text ns p)) k.bytes
+            ∙ (ap (λ i. laid writes (laid writes out at k.front) i (piece_text ns p)) k.end_is
+            ∙ laid_after writes out at k.front (piece_text ns p) b));
+        deep = k.deep ∙ g.need_is;
+      }
+
+  laying_end : Steps w w' (Ok None) →
+      (end ≡ at + length text) × (6 * need ≤ room) × (out' ≡ laid writes out at text)
+  laying_end s =
+      let g = said same wide s k.stands in
+      let all : text ≡ k.front = k.text_is ∙ (ap (λ t. k.front ++ t) g.0 ∙ append-nil k.front) in (
+        k.end_is ∙ ap (λ t. at + length t) (sym all),
+        omega (arith, k.deep, g.1),
+        k.bytes ∙ ap (laid writes out at) (sym all),
+      )
+
+  -- the rest of the text is not within the limit
+  laying_long : (p : Piece) (n limit : ℕ) → Steps w w' (Ok (Some p)) → n ≡ length (piece_text ns p) →
+      limit < end + n → limit < at + length text
+  laying_long p n limit s e b =
+      let g = said same wide s k.stands in
+      omega (arith, long k, ap length g.text_is, length-append (piece_text ns p) g.text', e)
+
+  laying_refused : (why : Unprinted) (limit : ℕ) (whole : List ℕ) → room ≡ length whole → Steps w w' (Err why)
+      → limit < 2 ^ 64 → Unfit at limit whole text need why
+  laying_refused TooLong limit whole l s b = omega (arith, said same wide s k.stands, long k)
+  laying_refused TooDeep limit whole l s b = omega (arith, said same wide s k.stands, k.deep, l)
+
+-- The walk w is in these words and has this room on its stack; it has laid the text of the slot's value up to `end`.
+pub record Walked (writes : Bool) (ns : List Name) (words : List ℕ) (slot : Slot) (room : ℕ) (w : Walk)
+    (out out' : List ℕ) (at end : ℕ) : Type 0 where
+  pub same : w.words.now ≡ words
+  pub long : length w.stack.words.now ≡ room
+  pub fits : end ≤ length out
+  pub unwritten : OnFalse writes (out' ≡ out)
+  pub laying : {used : ℕ} {v : Value} → Holds ns (store_of words used) slot v →
+      Laying writes ns (store_of words used) room (waiting w.stack) w.cursor out out' at end (text_v v)
+      (nesting (tree_v ns v))
+
+-- its steps
+module _ {writes : Bool} {ns : List Name} {words : List ℕ} {slot : Slot} {room : ℕ} {w w' : Walk}
+    {out out' : List ℕ} {at end : ℕ} (k : Walked writes ns words slot room w out out' at end) where
+  pub walked_more : (out'' : List ℕ) (p : Piece) (n : ℕ) → Steps w w' (Ok (Some p)) → n ≡ length (piece_text ns p)
+      → at ≤ length out → end + n ≤ length out → out'' ≡ laid writes out' end (piece_text ns p)
+      → Walked writes ns words slot room w' out out'' at (end + n)
+  walked_more out'' p n s e b f l =
+      record {
+        same = s.keeps.same ∙ k.same;
+        long = s.keeps.long ∙ k.long;
+        fits = f;
+        unwritten = unwritten_more writes out out' out'' end (piece_text ns p) k.unwritten l;
+        laying = λ h. laying_more k.same k.long (k.laying h) out'' p n s e b l;
+      }
+
+  pub walked_end : Steps w w' (Ok None) → {scratch : List ℕ} → room ≡ length scratch →
+      Measured ns words slot at (length out) scratch end × Laid writes ns words slot out out' at
+  walked_end s l = (
     record {
-      front = k.front ++ piece_text ns p;
-      text' = g.text';
-      need' = g.need';
-      stands = g.stands;
-      text_is = k.text_is ∙ (ap (λ t. k.front ++ t) g.text_is
-          ∙ sym (append_assoc k.front (piece_text ns p) g.text'));
-      end_is = omega (arith, k.end_is, e, length-append k.front (piece_text ns p));
-      bytes = w ∙ (ap (λ q. written q end (piece_text ns p)) k.bytes
-          ∙ (ap (λ i. written (written out at k.front) i (piece_text ns p)) k.end_is
-          ∙ written_after out at k.front (piece_text ns p) b));
-      deep = deep_on (length scratch) (length scratch') need k.need' g.need' l k.deep g.need_is;
-    }
+      fits = k.fits;
+      end_is = λ h. (laying_end k.same k.long (k.laying h) s).0;
+      deep = λ h. omega (arith, l, (laying_end k.same k.long (k.laying h) s).1);
+    },
+    record { bytes = λ h. (laying_end k.same k.long (k.laying h) s).2 },
+  )
 
-pub writing_end : {ns : List Name} {words scratch scratch' : List ℕ} {used : ℕ} {c : Cursor} {at end : ℕ}
-    {text : List ℕ} {need : ℕ} (out out' : List ℕ) → Steps words scratch scratch' c (Ok End) → end ≤ length out
-    → Writing ns (store_of words used) scratch c out out' at end text need → StandsInText out out' at end text
-writing_end {ns} {words} {scratch} {scratch'} {used} {c} {at} {end} {text} {need} out out' s b k =
-    let g = s.so k.stands in
-    let all = k.text_is ∙ (ap (λ t. k.front ++ t) g.0 ∙ append-nil k.front) in
-    record {
-      end_is = k.end_is ∙ ap (λ t. at + length t) (sym all);
-      fits = b;
-      bytes =
-          k.bytes ∙ ap (written out at) (sym all);
-    }
+  pub walked_long : (p : Piece) (n : ℕ) → Steps w w' (Ok (Some p)) → n ≡ length (piece_text ns p) →
+      {scratch : List ℕ} → room ≡ length scratch → length out < end + n → UnprintedValue ns words slot at (length out) scratch TooLong
+  walked_long p n s e l b = record { unfit = λ h. laying_long k.same k.long (k.laying h) p n (length out) s e b }
 
--- what was measured is not refused
-pub never_refused : (why : Unprinted) (at limit end : ℕ) (scratch text : List ℕ) (need : ℕ) → end ≤ limit →
-    end ≡ at + length text → 6 * need ≤ length scratch
-    → Unfit at limit scratch text need why → ⊥
-never_refused TooLong at limit end scratch text need b e d u = omega arith
-never_refused TooDeep at limit end scratch text need b e d u = omega arith
-
--- each step of a walk within the limit comes nearer to its end
-pub walk_ends : (ns : List Name) (p : Piece) (c c' : Cursor) (n end limit : ℕ) → Moves c (Ok (More p c')) →
-    n ≡ length (piece_text ns p) → end + n ≤ limit
-    → 2 * (limit - (end + n)) + rank c'.next < 2 * (limit - end) + rank c.next
-walk_ends ns p c c' n end limit m e b = omega (arith, m ns, e)
+  pub walked_refused : (why : Unprinted) → Steps w w' (Err why) → {scratch : List ℕ} → room ≡ length scratch →
+      length out < 2 ^ 64 →
+      UnprintedValue ns words slot at (length out) scratch why
+  walked_refused why s {scratch} l b =
+      record { unfit = λ h. laying_refused k.same k.long (k.laying h) why (length out) scratch l s b }

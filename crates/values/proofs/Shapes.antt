@@ -7,7 +7,7 @@ use Rattle.store.specs.Heap.{Store, Den}
 use Rattle.store.specs.Slots.{place_of}
 use Rattle.store.specs.declared.slot.Slot.{Slot}
 use Rattle.values.specs.Encoding.{Holds, bits64, number}
-use Rattle.values.specs.Shape.{Shape}
+use Rattle.values.specs.Shape.{Shape, Views}
 use Rattle.values.specs.declared.value.Value.{Value}
 use Rattle.values.specs.declared.value.Value.TheVariants.{Number, Atom, Worker, Nil, EmptyTuple, Tuple, Pair}
 use Rattle.store.proofs.Laws.{leaf_is, node_is, node_left, node_right}
@@ -89,6 +89,9 @@ part_seen (v_pid n) h = ap v_pid (sym (joined_is 3 n h.stands))
 pub seen_by : {ns : List Name} {m : Store} {s : Slot} {v : Val} (k : ℕ) → s.kind ≡ k → Holds ns m s v →
     Shape ns m (part_by k s) v
 seen_by {ns} {m} {s} {v} k e h = subst (λ j. Shape ns m (part_by j s) v) (sym (kind_is v h) ∙ e) (part_seen v h)
+
+pub views_by : {s : Slot} (k : ℕ) → s.kind ≡ k → Views s (part_by k s)
+views_by k e = record { value = λ h. seen_by k e h }
 
 -- and one of another kind holds no value
 pub no_kind : {ns : List Name} {m : Store} {s : Slot} (v : Val) → Holds ns m s v

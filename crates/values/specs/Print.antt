@@ -1,8 +1,9 @@
 -- What printing a value leaves in the output, and why it refuses.
-use Rattle.std.specs.Prelude.{◌≡◌, ℕ, ◌+◌, ◌*◌, ◌/◌, ◌<◌, ◌≤◌, max, List, ◌++◌, length}
+use Rattle.std.specs.Prelude.{◌≡◌, ℕ, ◌+◌, ◌*◌, ◌/◌, ◌<◌, ◌≤◌, max, Bool, true, false, List, ◌++◌, length}
 use Rattle.meaning.specs.Basics.{Name}
 use Rattle.meaning.specs.Values.{Value, text_v}
 use Rattle.store.specs.Heap.{Store, store_of}
+use Rattle.store.specs.declared.slot.Cell.{Cell}
 use Rattle.store.specs.declared.slot.Slot.{Slot}
 use Rattle.values.specs.Encoding.{Holds, tree_v}
 use Rattle.values.specs.Output.{written}
@@ -41,23 +42,23 @@ pub record Measured (ns : List Name) (words : List ℕ) (slot : Slot) (at limit 
   pub end_is : {used : ℕ} {v : Value} → Holds ns (store_of words used) slot v → end ≡ at + length (text_v v)
   pub deep : {used : ℕ} {v : Value} → Holds ns (store_of words used) slot v → 6 * nesting (tree_v ns v) ≤ length scratch
 
--- a walk through a text that takes `need` cells has come from `at` to `end`
-pub record Counting (ns : List Name) (m : Store) (scratch : List ℕ) (c : Cursor) (at end : ℕ) (text : List ℕ)
-    (need : ℕ) : Type 0 where
-  pub text' : List ℕ
-  pub need' : ℕ
-  pub stands : Remains ns m scratch c text' need'
-  pub long : at + length text ≡ end + length text'
-  pub deep : max (length scratch / 6) need ≡ max (length scratch / 6) need'
+-- what the output holds after a text that is written, or only measured
+abbrev pub laid : Bool → List ℕ → ℕ → List ℕ → List ℕ
+laid true out at text = written out at text
+laid false out at text = out
 
--- .. and what lies behind it stands in the output
-pub record Writing (ns : List Name) (m : Store) (scratch : List ℕ) (c : Cursor) (out out' : List ℕ) (at end : ℕ)
-    (text : List ℕ) (need : ℕ) : Type 0 where
+pub record Laid (writes : Bool) (ns : List Name) (words : List ℕ) (slot : Slot) (out out' : List ℕ) (at : ℕ) :
+    Type 0 where
+  pub bytes : {used : ℕ} {v : Value} → Holds ns (store_of words used) slot v → out' ≡ laid writes out at (text_v v)
+
+-- A walk through a text that takes `need` cells has come from `at` to `end`, and the output has what lies behind it.
+pub record Laying (writes : Bool) (ns : List Name) (m : Store) (room : ℕ) (xs : List Cell) (c : Cursor)
+    (out out' : List ℕ) (at end : ℕ) (text : List ℕ) (need : ℕ) : Type 0 where
   pub front : List ℕ
   pub text' : List ℕ
   pub need' : ℕ
-  pub stands : Remains ns m scratch c text' need'
+  pub stands : Remains ns m room xs c text' need'
   pub text_is : text ≡ front ++ text'
   pub end_is : end ≡ at + length front
-  pub bytes : out' ≡ written out at front
-  pub deep : max (length scratch / 6) need ≡ max (length scratch / 6) need'
+  pub bytes : out' ≡ laid writes out at front
+  pub deep : max (room / 6) need ≡ max (room / 6) need'

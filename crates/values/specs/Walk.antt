@@ -3,18 +3,19 @@ use Rattle.std.specs.Prelude.{◌≡◌, ℕ, ◌+◌, ◌*◌, ◌/◌, ◌^◌
 use Rattle.meaning.specs.Basics.{Name}
 use Rattle.meaning.specs.Values.{Value, v_tuple, Values, text_v, text_vs}
 use Rattle.store.specs.Heap.{Store, store_of, left_of, right_of}
-use Rattle.store.specs.Slots.{slot_at, place_of, WroteCell}
+use Rattle.store.specs.Slots.{place_of}
+use Rattle.store.specs.Stack.{waiting}
 use Rattle.store.specs.Tree.{Tree, leaf, node}
+use Rattle.store.specs.declared.slot.Cell.{Cell}
 use Rattle.store.specs.declared.slot.Slot.{Slot}
 use Rattle.values.specs.Encoding.{Holds, tree_v, tree_vs}
 use Rattle.values.specs.Pieces.{closed, piece_text}
 use Rattle.values.specs.declared.piece.Piece.{Piece}
 use Rattle.values.specs.declared.piece.Piece.TheVariants.{Sign}
 use Rattle.values.specs.declared.walk.Cursor.{Cursor}
-use Rattle.values.specs.declared.walk.Step.{Step}
-use Rattle.values.specs.declared.walk.Step.TheVariants.{More, End}
 use Rattle.values.specs.declared.walk.Unprinted.{Unprinted}
 use Rattle.values.specs.declared.walk.Unprinted.TheVariants.{TooLong, TooDeep}
+use Rattle.values.specs.declared.walk.Walk.{Walk}
 
 -- how deep a tree is nested: steps to the left, since the way to the right is a loop
 abbrev pub nesting : Tree → ℕ
@@ -49,11 +50,12 @@ abbrev pub Waits : List Name → Store → Slot → Slot → Waiting → Type 0
 Waits ns m left right (tail v n) = Holds ns m left v × (right.kind ≡ 16) × (place_of right ≡ n)
 Waits ns m left right (rest vs n) = Holds ns m left (v_tuple vs) × (right.kind ≡ 17) × (place_of right ≡ n)
 
--- the last cell of the scratch is the first of the stack
-abbrev pub Stack : List Name → Store → List ℕ → List Waiting → Type 0
-Stack ns m scratch [] = Unit {0}
-Stack ns m scratch (w ∷ ws) =
-    Waits ns m (slot_at scratch (2 * length ws)) (slot_at scratch (2 * length ws + 1)) w × Stack ns m scratch ws
+-- the cells of a stack, and what waits in them, one for one
+abbrev pub Stack : List Name → Store → List Cell → List Waiting → Type 0
+Stack ns m [] [] = Unit {0}
+Stack ns m [] (w ∷ ws) = ⊥
+Stack ns m (x ∷ xs) [] = ⊥
+Stack ns m (x ∷ xs) (w ∷ ws) = Waits ns m x.left x.right w × Stack ns m xs ws
 
 -- the value that is written next, if any
 abbrev pub HoldsNext : List Name → Store → Option Slot → Option Value → Type 0
@@ -70,59 +72,70 @@ abbrev pub next_nesting : List Name → Option Value → ℕ
 next_nesting ns None = 0
 next_nesting ns (Some v) = nesting (tree_v ns v)
 
--- the walk has this text before it, and takes so many cells of the scratch
-pub record Remains (ns : List Name) (m : Store) (scratch : List ℕ) (c : Cursor) (text : List ℕ) (need : ℕ) :
+-- the walk has the cells xs on its stack, of `room` words, and this text before it, and takes `need` cells in all
+pub record Remains (ns : List Name) (m : Store) (room : ℕ) (xs : List Cell) (c : Cursor) (text : List ℕ) (need : ℕ) :
     Type 0 where
   pub next : Option Value
   pub stack : List Waiting
   pub here : HoldsNext ns m c.next next
-  pub long : c.depth ≡ length stack
-  pub room : 6 * c.depth ≤ length scratch
-  pub waits : Stack ns m scratch stack
+  pub fits : 6 * length xs ≤ room
+  pub waits : Stack ns m xs stack
   pub text_is : text ≡ next_text next ++ (closed c.closing ++ stack_text stack)
   pub need_is : need ≡ max (length stack + next_nesting ns next) (stack_need ns stack)
 
 -- the walk goes on behind the piece p
-pub record Goes (ns : List Name) (m : Store) (scratch : List ℕ) (text : List ℕ) (need : ℕ) (p : Piece) (c : Cursor) :
-    Type 0 where
+pub record Goes (ns : List Name) (m : Store) (room : ℕ) (xs : List Cell) (text : List ℕ) (need : ℕ) (p : Piece)
+    (c : Cursor) : Type 0 where
   pub text' : List ℕ
   pub need' : ℕ
-  pub stands : Remains ns m scratch c text' need'
+  pub stands : Remains ns m room xs c text' need'
   pub text_is : text ≡ piece_text ns p ++ text'
-  pub need_is : max (length scratch / 6) need ≡ max (length scratch / 6) need'
+  pub need_is : max (room / 6) need ≡ max (room / 6) need'
 
--- what a step of the walk says
-abbrev pub After : List Name → Store → List ℕ → List ℕ → ℕ → Result Step Unprinted → Type 0
-After ns m scratch text need (Ok (More p c)) = Goes ns m scratch text need p c
-After ns m scratch text need (Ok End) = (text ≡ []) × (need ≡ 0)
-After ns m scratch text need (Err TooLong) = 2 ^ 64 ≤ length text
-After ns m scratch text need (Err TooDeep) = length scratch < 6 * need
-
-pub record Steps (words scratch scratch' : List ℕ) (c : Cursor) (r : Result Step Unprinted) : Type 0 where
-  pub so : {ns : List Name} {used : ℕ} {text : List ℕ} {need : ℕ} →
-      Remains ns (store_of words used) scratch c text need
-      → After ns (store_of words used) scratch' text need r
+-- what a step of the walk to the cursor c, with the cells xs on the stack, says
+abbrev pub After : List Name → Store → ℕ → List Cell → Cursor → List ℕ → ℕ → Result (Option Piece) Unprinted → Type 0
+After ns m room xs c text need (Ok (Some p)) = Goes ns m room xs text need p c
+After ns m room xs c text need (Ok None) = (text ≡ []) × (need ≡ 0)
+After ns m room xs c text need (Err TooLong) = 2 ^ 64 ≤ length text
+After ns m room xs c text need (Err TooDeep) = room < 6 * need
 
 -- a step writes a byte, or ends a value: so a walk ends
 abbrev pub rank : Option Slot → ℕ
 rank None = 0
 rank (Some s) = 1
 
-abbrev pub Moves : Cursor → Result Step Unprinted → Type 0
-Moves c (Ok (More p c')) = (ns : List Name) → rank c'.next < rank c.next + 2 * length (piece_text ns p)
-Moves c (Ok End) = Unit {0}
-Moves c (Err e) = Unit {0}
+abbrev pub Moves : Cursor → Cursor → Result (Option Piece) Unprinted → Type 0
+Moves c c' (Ok (Some p)) = (ns : List Name) → rank c'.next < rank c.next + 2 * length (piece_text ns p)
+Moves c c' (Ok None) = Unit {0}
+Moves c c' (Err e) = Unit {0}
+
+-- the walk reads the same words, and its stack has as many as before
+pub record Keeps (w w' : Walk) : Type 0 where
+  pub same : w'.words.now ≡ w.words.now
+  pub long : length w'.stack.words.now ≡ length w.stack.words.now
+
+pub record Steps (w w' : Walk) (r : Result (Option Piece) Unprinted) : Type 0 where
+  pub keeps : Keeps w w'
+  pub so : {ns : List Name} {used : ℕ} {text : List ℕ} {need : ℕ} →
+      Remains ns (store_of w.words.now used) (length w.stack.words.now) (waiting w.stack) w.cursor text need
+      → After ns (store_of w.words.now used) (length w.stack.words.now) (waiting w'.stack) w'.cursor text need r
+  pub moves : Moves w.cursor w'.cursor r
 
 -- where the walk stands in a node that was opened
-abbrev pub inside : List ℕ → Slot → ℕ → Cursor
-inside words s depth = record { next = Some (left_of words s); closing = 0; depth = depth + 1 }
+abbrev pub inside : List ℕ → Slot → Cursor
+inside words s = record { next = Some (left_of words s); closing = 0 }
 
--- the node was opened, or the scratch has no cell for it
-pub record Pushed (words scratch scratch' : List ℕ) (s mark : Slot) (depth : ℕ) : Type 0 where
-  pub room : 6 * (depth + 1) ≤ length scratch
-  pub wrote : WroteCell scratch scratch' depth (record { left = right_of words s; right = mark })
+-- the node was opened: its right slot is on top of the stack, with a mark
+pub record Pushed (words : List ℕ) (room : ℕ) (xs xs' : List Cell) (s mark : Slot) : Type 0 where
+  pub fits : 6 * (length xs + 1) ≤ room
+  pub on_top : xs' ≡ record { left = right_of words s; right = mark } ∷ xs
 
-abbrev pub Opened : List ℕ → List ℕ → List ℕ → Slot → Slot → ℕ → ℕ → Result Step Unprinted → Type 0
-Opened words scratch scratch' s mark depth sign r =
-    ((r ≡ Ok (More (Sign sign) (inside words s depth))) × Pushed words scratch scratch' s mark depth)
-    ⊎ ((r ≡ Err TooDeep) × (length scratch < 6 * (depth + 1)))
+-- .. or the stack has no room for it
+abbrev pub Opens : List ℕ → ℕ → List Cell → List Cell → Slot → Slot → ℕ → Cursor → Result (Option Piece) Unprinted → Type 0
+Opens words room xs xs' s mark sign c' r =
+    ((r ≡ Ok (Some (Sign sign))) × (c' ≡ inside words s) × Pushed words room xs xs' s mark)
+    ⊎ ((r ≡ Err TooDeep) × (room < 6 * (length xs + 1)))
+
+abbrev pub Opened : Walk → Walk → Slot → Slot → ℕ → Result (Option Piece) Unprinted → Type 0
+Opened w w' s mark sign r =
+    Opens w.words.now (length w.stack.words.now) (waiting w.stack) (waiting w'.stack) s mark sign w'.cursor r

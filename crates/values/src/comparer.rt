@@ -3,7 +3,7 @@
 ghost use Rattle.std.specs.Result.{MatchResult};
 ghost use Rattle.values.specs.Compare.{LargeValue, SameValue};
 
-use store::{Full, Slot, equal};
+use store::{Cells, Full, Slot};
 
 /// Whether `a` and `b` hold the same value; refuses only where the first takes more cells than `scratch` or `budget`.
 pub fn same_value(
@@ -17,8 +17,5 @@ pub fn same_value(
         (λ answer. SameValue words.now a b answer)
         (λ _. LargeValue words.now a b scratch.old budget) }
 {
-    match equal(words, a, b, scratch, budget) {
-        Ok(answer) => Ok(answer),
-        Err(full) => Err(full),
-    }
+    words.equal(a, b, scratch, budget)
 }

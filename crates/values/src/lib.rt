@@ -3,7 +3,6 @@
 #![tactic(auto)]
 
 mod comparer;
-mod digits;
 mod names;
 mod piece;
 mod printer;
@@ -13,7 +12,10 @@ mod walk;
 
 pub use comparer::same_value;
 pub use names::Names;
-pub use printer::print;
+pub use printer::Text;
 pub use space::{bindings_cells, chain_cells, value_cells};
-pub use value::{ATOM, Atom, EMPTY_TUPLE, NIL, NUMBER, PAIR, TUPLE, Value, WORKER, WorkerId};
+pub use value::{
+    ATOM, Atom, EMPTY_LIST, EMPTY_TUPLE, NIL, NO_ELEMENTS, NUMBER, PAIR, TUPLE, Value, WORKER,
+    WorkerId,
+};
 pub use walk::Unprinted;

@@ -1,71 +1,76 @@
-//! Pieces of a text: how long each is, and writing it.
+//! Pieces of a text, and the bytes of each.
 
-ghost use Rattle.std.specs.Prelude.{◌≡◌, ◌+◌, ◌≤◌, length, replicate, pos};
-ghost use Rattle.values.specs.Output.{written};
-ghost use Rattle.values.specs.Pieces.{piece_text};
+ghost use Rattle.std.specs.Prelude.{◌≡◌};
+ghost use Rattle.meaning.specs.Values.{decimal};
+ghost use Rattle.values.specs.Pieces.{piece_text, worker_text};
 
-use crate::digits::{number_length, worker_length, write_number, write_worker};
 use crate::names::Names;
 use crate::value::{Atom, WorkerId};
+use itoa::write_digits;
 
-/// A part of a text that is written at once; `Closing` is that many `]`.
-#[derive(Clone, Copy)]
+/// The length of the longest text that is made: 20 digits, and a sign on either side.
+pub const ROOM: usize = 22;
+
+/// Bytes for the text of a piece.
+pub type Buffer = [u8; ROOM];
+
+/// A part of a text that is written at once.
+#[derive(Clone, Copy, Debug, PartialEq, Eq)]
 pub enum Piece {
     Sign(u8),
     Signs(u8, u8),
+    /// Brackets that close as many pairs, at most as many as the buffer holds.
     Closing(usize),
     Number(i64),
     Atom(Atom),
     Worker(WorkerId),
 }
 
-/// The length of a piece's text.
-pub fn piece_length<N: Names>(piece: Piece, names: &N) -> usize
-    ensures { result ≡ length (piece_text (N.Names.table names.now) piece) }
-{
-    match piece {
-        Piece::Sign(_) => 1,
-        Piece::Signs(_, _) => 2,
-        Piece::Closing(n) => n,
-        Piece::Number(n) => number_length(n),
-        Piece::Atom(atom) => names.name(atom).len(),
-        Piece::Worker(WorkerId(n)) => worker_length(n),
-    }
-}
-
-/// Writes a piece's text, where there is room for it.
-pub fn write_piece<N: Names>(piece: Piece, names: &N, out: &mut [u8], at: usize)
-    requires { at + length (piece_text (N.Names.table names.now) piece) ≤ length out.old }
-    ensures { out.new ≡
-        written out.old at (piece_text (N.Names.table names.now) piece) }
-{
-    match piece {
-        Piece::Sign(a) => out[at] = a,
-        Piece::Signs(a, b) => {
-            out[at] = a;
-            out[at + 1] = b;
+impl Piece {
+    /// The bytes of the piece, which are made in `buffer` where the table of names has none.
+    pub fn bytes<'a, N: Names>(self, names: &'a N, buffer: &'a mut Buffer) -> &'a [u8]
+        ensures { result.now ≡ piece_text (N.Names.table names.now) self }
+    {
+        match self {
+            Piece::Sign(a) => {
+                buffer[0] = a;
+                &buffer[..1]
+            }
+            Piece::Signs(a, b) => {
+                buffer[0] = a;
+                buffer[1] = b;
+                &buffer[..2]
+            }
+            Piece::Closing(count) => {
+                *buffer = [b']'; ROOM];
+                &buffer[..count.min(ROOM)]
+            }
+            Piece::Number(n) => number_bytes(n, buffer),
+            Piece::Atom(atom) => names.name(atom),
+            Piece::Worker(WorkerId(n)) => worker_bytes(n, buffer),
         }
-        Piece::Closing(n) => write_closing(out, at, n),
-        Piece::Number(n) => write_number(out, at, n),
-        Piece::Atom(atom) => write_bytes(out, at, names.name(atom)),
-        Piece::Worker(WorkerId(n)) => write_worker(out, at, n),
     }
 }
 
-/// Writes `n` brackets that close, where there is room for them.
-fn write_closing(out: &mut [u8], at: usize, n: usize)
-    requires { at + n ≤ length out.old }
-    ensures { out.new ≡ written out.old at (replicate n 93) }
+/// The text of a number, with its sign.
+fn number_bytes(n: i64, buffer: &mut Buffer) -> &[u8]
+    ensures { result.now ≡ decimal n }
 {
-    for i in 0..n {
-        out[at + i] = b']';
+    let start = write_digits(n.unsigned_abs(), buffer, ROOM);
+    if n < 0 {
+        let sign = start - 1;
+        buffer[sign] = b'-';
+        return &buffer[sign..];
     }
+    &buffer[start..]
 }
 
-/// Copies bytes, where there is room for them.
-fn write_bytes(out: &mut [u8], at: usize, bytes: &[u8])
-    requires { at + length bytes.now ≤ length out.old }
-    ensures { out.new ≡ written out.old at bytes.now }
+/// The text of a worker, `<` and its number and `>`.
+fn worker_bytes(n: u64, buffer: &mut Buffer) -> &[u8]
+    ensures { result.now ≡ worker_text n }
 {
-    out[at..at + bytes.len()].copy_from_slice(bytes);
+    buffer[ROOM - 1] = b'>';
+    let sign = write_digits(n, buffer, ROOM - 1) - 1;
+    buffer[sign] = b'<';
+    &buffer[sign..]
 }

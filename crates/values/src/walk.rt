@@ -1,155 +1,130 @@
 //! The walk through a value's tree that gives its text piece by piece, with a stack in lent words.
 
-ghost use Rattle.std.specs.Prelude.{◌≡◌, ◌<◌, length, Some, None, MatchResult};
-ghost use Rattle.values.specs.Walk.{Moves, Opened, Steps};
+ghost use Rattle.std.specs.Prelude.{◌≡◌, Some, None};
 
-use crate::piece::Piece;
-use crate::value::{EMPTY_TUPLE, PAIR, TUPLE, Value, joined, number};
-use store::{Cell, Place, Slot, both, read_cell, write_cell};
+use crate::piece::{Piece, ROOM};
+use crate::value::{EMPTY_TUPLE, PAIR, TUPLE, Value};
+use store::{Cell, Cells, Full, Slot, Stack};
 
 /// Why a value is not printed: its text is longer than the room, or it is nested deeper than the scratch has cells.
-#[derive(Clone, Copy, Debug, PartialEq)]
+#[derive(Clone, Copy, Debug, PartialEq, Eq)]
 pub enum Unprinted {
     TooLong,
     TooDeep,
 }
 
-/// Where a walk stands: what is written next, how many pairs close after it, and how many nodes wait on the stack.
-#[derive(Clone, Copy)]
+impl From<Full> for Unprinted {
+    ghost use Rattle.values.specs.declared.walk.Unprinted.TheVariants.{TooDeep};
+
+    ghost from_gives = { λ _ why. why ≡ TooDeep };
+
+    fn from(_full: Full) -> Self {
+        Self::TooDeep
+    }
+}
+
+/// Where a walk stands: what is written next, and how many pairs close after it.
+#[derive(Clone, Copy, Debug, PartialEq, Eq)]
 pub struct Cursor {
     pub next: Option<Slot>,
     pub closing: usize,
-    pub depth: usize,
 }
 
-/// A piece and where the walk goes on, or the end of the text.
-#[derive(Clone, Copy)]
-pub enum Step {
-    More(Piece, Cursor),
-    End,
+/// A walk: the words that it reads, the nodes that wait, and where it is.
+#[derive(Drop)]
+pub struct Walk<'a, 's> {
+    pub words: &'a [u32],
+    pub stack: Stack<'s>,
+    pub cursor: Cursor,
 }
 
-/// The next piece of the text.
-pub fn advance(words: &[u32], scratch: &mut [u32], cursor: Cursor) -> Result<Step, Unprinted>
-    ensures steps { Steps words.now scratch.old scratch.new cursor result }
-    ensures moves { Moves cursor result }
-{
-    match cursor.next {
-        Some(slot) => begin(words, scratch, cursor, slot),
-        None => resume(words, scratch, cursor),
+impl Walk<'_, '_> {
+    ghost use Rattle.values.specs.Walk.{Keeps, Opened, Steps};
+
+    /// The next piece of the text, or none at its end.
+    pub fn advance(&mut self) -> Result<Option<Piece>, Unprinted>
+        ensures { Steps self.old self.new result }
+    {
+        match self.cursor.next {
+            Some(slot) => self.begin(slot),
+            None => self.resume(),
+        }
     }
-}
 
-/// The first piece of the value that is next.
-fn begin(words: &[u32], scratch: &mut [u32], cursor: Cursor, slot: Slot) -> Result<Step, Unprinted>
-    ensures steps { cursor.next ≡ Some slot
-        → Steps words.now scratch.old scratch.new cursor result }
-    ensures moves { cursor.next ≡ Some slot → Moves cursor result }
-{
-    let closing = cursor.closing;
-    let depth = cursor.depth;
-    let done = Cursor {
-        next: None,
-        closing,
-        depth,
-    };
-    match Value::from_slot(slot) {
-        Value::Number(n) => Ok(Step::More(Piece::Number(n), done)),
-        Value::Atom(atom) => Ok(Step::More(Piece::Atom(atom), done)),
-        Value::Worker(worker) => Ok(Step::More(Piece::Worker(worker), done)),
-        Value::Nil => Ok(Step::More(Piece::Signs(b'[', b']'), done)),
-        Value::EmptyTuple => Ok(Step::More(Piece::Signs(b'{', b'}'), done)),
-        Value::Pair(node) => {
-            if closing == usize::MAX {
-                return Err(Unprinted::TooLong);
+    /// The first piece of the value that is next.
+    fn begin(&mut self, slot: Slot) -> Result<Option<Piece>, Unprinted>
+        requires { self.old.cursor.next ≡ Some slot }
+        ensures { Steps self.old self.new result }
+    {
+        self.cursor.next = None;
+        match Value::from(slot) {
+            Value::Number(n) => Ok(Some(Piece::Number(n))),
+            Value::Atom(atom) => Ok(Some(Piece::Atom(atom))),
+            Value::Worker(worker) => Ok(Some(Piece::Worker(worker))),
+            Value::Nil => Ok(Some(Piece::Signs(b'[', b']'))),
+            Value::EmptyTuple => Ok(Some(Piece::Signs(b'{', b'}'))),
+            Value::Pair(node) => {
+                let closing = self.cursor.closing.checked_add(1);
+                let closing = closing.ok_or(Unprinted::TooLong)?;
+                self.open(node, Slot::numbered(PAIR, closing as u64), b'[')
             }
-            let mark = number(PAIR, (closing + 1) as u64);
-            open(words, scratch, node, mark, depth, b'[')
+            Value::Tuple(node) => {
+                let mark = Slot::numbered(TUPLE, self.cursor.closing as u64);
+                self.open(node, mark, b'{')
+            }
+            Value::Unknown(_) => Err(Unprinted::TooDeep),
         }
-        Value::Tuple(node) => {
-            let mark = number(TUPLE, closing as u64);
-            open(words, scratch, node, mark, depth, b'{')
-        }
-        Value::Unknown(_) => Err(Unprinted::TooDeep),
     }
-}
 
-/// The next piece after a value: the brackets that close, or what waits.
-fn resume(words: &[u32], scratch: &mut [u32], cursor: Cursor) -> Result<Step, Unprinted>
-    ensures steps { cursor.next ≡ None
-        → Steps words.now scratch.old scratch.new cursor result }
-    ensures moves { cursor.next ≡ None → Moves cursor result }
-{
-    let closing = cursor.closing;
-    if closing > 0 {
-        let next = Cursor {
-            next: None,
+    /// The next piece after a value: brackets that close, or what waits.
+    fn resume(&mut self) -> Result<Option<Piece>, Unprinted>
+        requires { self.old.cursor.next ≡ None }
+        ensures { Steps self.old self.new result }
+    {
+        if self.cursor.closing > 0 {
+            let count = self.cursor.closing.min(ROOM);
+            self.cursor.closing -= count;
+            return Ok(Some(Piece::Closing(count)));
+        }
+        self.pop()
+    }
+
+    /// The next piece after the left part of a node, if one waits: its mark says whether a tail or more elements wait.
+    fn pop(&mut self) -> Result<Option<Piece>, Unprinted>
+        requires next { self.old.cursor.next ≡ None }
+        requires closing { self.old.cursor.closing ≡ 0 }
+        ensures { Steps self.old self.new result }
+    {
+        let Some(Cell { left, right }) = self.stack.pop() else {
+            return Ok(None);
+        };
+        let closing = right.number() as usize;
+        if right.kind == PAIR {
+            self.cursor.next = Some(left);
+            self.cursor.closing = closing;
+            return Ok(Some(Piece::Sign(b'|')));
+        }
+        if left.kind == EMPTY_TUPLE {
+            self.cursor.closing = closing;
+            return Ok(Some(Piece::Signs(b',', b'}')));
+        }
+        self.open(left, right, b',')
+    }
+
+    /// Goes on with the left slot of a node, and lets the right one wait with its mark.
+    fn open(&mut self, node: Slot, mark: Slot, sign: u8) -> Result<Option<Piece>, Unprinted>
+        ensures keeps { Keeps self.old self.new }
+        ensures opened { Opened self.old self.new node mark sign result }
+    {
+        let parts = self.words.both(node);
+        self.stack.push(Cell {
+            left: parts.right,
+            right: mark,
+        })?;
+        self.cursor = Cursor {
+            next: Some(parts.left),
             closing: 0,
-            depth: cursor.depth,
         };
-        return Ok(Step::More(Piece::Closing(closing), next));
-    }
-    if cursor.depth == 0 {
-        return Ok(Step::End);
-    }
-    pop(words, scratch, cursor)
-}
-
-/// The next piece after the left part of a node: its mark says whether a tail or more elements wait.
-fn pop(words: &[u32], scratch: &mut [u32], cursor: Cursor) -> Result<Step, Unprinted>
-    requires { 0 < cursor.depth }
-    ensures steps { cursor.next ≡ None → cursor.closing ≡ 0
-        → Steps words.now scratch.old scratch.new cursor result }
-    ensures moves { Moves cursor result }
-{
-    let depth = cursor.depth - 1;
-    let Cell { left, right } = read_cell(scratch, Place(depth));
-    let closing = joined(right.low, right.high) as usize;
-    if right.kind == PAIR {
-        let next = Cursor {
-            next: Some(left),
-            closing,
-            depth,
-        };
-        return Ok(Step::More(Piece::Sign(b'|'), next));
-    }
-    if left.kind == EMPTY_TUPLE {
-        let next = Cursor {
-            next: None,
-            closing,
-            depth,
-        };
-        return Ok(Step::More(Piece::Signs(b',', b'}'), next));
-    }
-    open(words, scratch, left, right, depth, b',')
-}
-
-/// Goes on with the left slot of a node, and lets the right one wait with its mark.
-fn open(
-    words: &[u32],
-    scratch: &mut [u32],
-    node: Slot,
-    mark: Slot,
-    depth: usize,
-    sign: u8,
-) -> Result<Step, Unprinted>
-    ensures { Opened words.now scratch.old scratch.new
-        node mark depth sign result }
-{
-    let parts = both(words, node);
-    let waiting = Cell {
-        left: parts.right,
-        right: mark,
-    };
-    match write_cell(scratch, Place(depth), waiting) {
-        Ok(()) => {
-            let next = Cursor {
-                next: Some(parts.left),
-                closing: 0,
-                depth: depth + 1,
-            };
-            Ok(Step::More(Piece::Sign(sign), next))
-        }
-        Err(_) => Err(Unprinted::TooDeep),
+        Ok(Some(Piece::Sign(sign)))
     }
 }

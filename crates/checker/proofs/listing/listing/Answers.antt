@@ -1,5 +1,4 @@
-use Rattle.std.proofs.Common.{take, vec_items, ap}
-use native.Mathlib.Nat.{sub-zero}
+use Rattle.std.proofs.Common.{vec_items, refl}
 use Rattle.checker.proofs.Lines.{listed_more, listed_all}
 use Rattle.checker.proofs.listing.listing.Goals as goal
 
@@ -10,8 +9,8 @@ loop-lexeme-preserved c =
     c.loop-lexeme.position.line c.loop-lexeme.position.column c.in-Some.ensures
     (vec_items c.add_line.new.lines) _ _ c.past-start.result.line c.past-start.result.column
     c.past-position.result.line c.past-position.result.column c.loop-lexeme.invariant
-    (ap (λ n. take n rest) (sub-zero _)) c.past-start.ensures c.in_ok-add_line.ensures
-    (ap (λ n. take n rest) (sub-zero _)) c.past-position.ensures
+    refl c.past-start.ensures c.in_ok-add_line.ensures
+    refl c.past-position.ensures
 
 pub returns : goal.returns
 returns c = listed_all c.args.text.now _ c.loop-lexeme.rest.now c.loop-lexeme.position.line

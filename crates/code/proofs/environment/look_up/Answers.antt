@@ -1,10 +1,6 @@
-use Rattle.std.proofs.Common.{◌≡◌, ap, ◌∙◌, add-one, arith}
-use Rattle.store.specs.Heap.{right_of}
+use Rattle.std.proofs.Common.{◌≡◌, ap, ◌∙◌, arith}
 use Rattle.code.proofs.Variables.{descend, looks_up}
 use Rattle.code.proofs.environment.look_up.Goals as goal
-
-pub names-preserved : goal.names-preserved
-names-preserved c = rw add-one (c.right-rest.ensures ∙ ap (right_of c.args.heap.now.words.now) c.names.invariant)
 
 pub returns : goal.returns
 returns c =

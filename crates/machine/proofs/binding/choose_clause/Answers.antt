@@ -1,26 +1,15 @@
 use Rattle.machine.proofs.Binds.{case_some, case_none, case_full}
 use Rattle.machine.proofs.binding.choose_clause.Goals as goal
 
-pub returns-in-Some : goal.returns-in-Some
-returns-in-Some c =
-    let f = c.in-Ok.ensures in
-    record {
-      grows = record { long = f.long; kept = f.kept };
-      sim = record { to = λ x s me k sc e cs w u h hv cb si fs. case_some x s me u h hv si cb fs c.right-clauses.ensures f.kept c.in-Some.is f.cases };
-    }
+pub returns-in-Some-clause-sim : goal.returns-in-Some-clause-sim
+returns-in-Some-clause-sim c =
+    let f = c.in_ok-chosen.ensures in
+    record { to = λ x s me k sc e cs w u h hv cb si fs. case_some x s me u h hv si cb fs c.right.ensures f.grows.kept c.in-Some.is f.cases }
 
-pub returns-in-None : goal.returns-in-None
-returns-in-None c =
-    let f = c.in-Ok.ensures in
-    record {
-      grows = record { long = f.long; kept = f.kept };
-      sim = record { to = λ x s me k sc e cs w u h hv cb si fs. case_none x s me u h hv si cb fs c.right-clauses.ensures f.kept c.in-None.is f.cases };
-    }
+pub returns-in-None-clause-sim : goal.returns-in-None-clause-sim
+returns-in-None-clause-sim c =
+    let f = c.in_ok-chosen.ensures in
+    record { to = λ x s me k sc e cs w u h hv cb si fs. case_none x s me u h hv si cb fs c.right.ensures f.grows.kept c.in-None.is f.cases }
 
-pub returns-in-Err : goal.returns-in-Err
-returns-in-Err c =
-    let f = c.in-Err.ensures in
-    record {
-      grows = record { long = f.long; kept = f.kept };
-      sim = record { to = λ x s me k sc e cs w u h hv cb si fs. case_full x s me u h hv si cb c.right-clauses.ensures f.cases };
-    }
+pub returns-in_err-chosen-clause-sim : goal.returns-in_err-chosen-clause-sim
+returns-in_err-chosen-clause-sim c = record { to = λ x s me k sc e cs w u h hv cb si fs. case_full x s me u h hv si k c.from_residual.result c.from_residual.ensures.1 cb c.right.ensures c.in_err-chosen.ensures.cases }

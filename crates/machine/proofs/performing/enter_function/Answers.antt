@@ -2,8 +2,8 @@ use Rattle.std.proofs.Common.{refl}
 use Rattle.machine.proofs.Performs.{enter_as}
 use Rattle.machine.proofs.performing.enter_function.Goals as goal
 
-pub returns-in-Some : goal.returns-in-Some
-returns-in-Some c = enter_as refl c.in-Some.ensures
+pub returns-in_err-body : goal.returns-in_err-body
+returns-in_err-body c = enter_as c.from_residual.ensures c.in_err-body.ensures
 
-pub returns-in-None : goal.returns-in-None
-returns-in-None c = enter_as refl c.in-None.ensures
+pub returns : goal.returns
+returns c = enter_as refl c.in_ok-body.ensures

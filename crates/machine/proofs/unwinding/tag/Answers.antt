@@ -1,19 +1,5 @@
-use Rattle.std.proofs.Common.{arith}
-use Rattle.machine.proofs.Standing.{grows_on, grows_put, grows_lacks}
-use Rattle.machine.proofs.Stepping.{tagged}
+use Rattle.machine.proofs.Stepping.{tagged_by}
 use Rattle.machine.proofs.unwinding.tag.Goals as goal
 
-pub returns-in-Ok-put : goal.returns-in-Ok-put
-returns-in-Ok-put c =
-    let one = c.in-Ok.ensures in
-    let two = c.in-Ok-put.ensures in
-    record { grows = grows_on (grows_put one.long one.cases) (grows_put two.long two.cases); cases = tagged one.cases two.cases }
-
-pub returns-in-Err : goal.returns-in-Err
-returns-in-Err c = let one = c.in-Err.ensures in record { grows = grows_lacks one.cases; cases = omega (arith, one.cases.short) }
-
-pub returns-in-Err-put : goal.returns-in-Err-put
-returns-in-Err-put c =
-    let one = c.in-Ok.ensures in
-    let two = c.in-Err-put.ensures in
-    record { grows = grows_on (grows_put one.long one.cases) (grows_lacks two.cases); cases = omega (arith, one.long, one.cases.count, two.cases.short) }
+pub returns-clause-cases : goal.returns-clause-cases
+returns-clause-cases c = tagged_by _ _ c.put-2.result c.in_ok-second.ensures.long c.in_ok-second.ensures.cases c.put-2.ensures.cases

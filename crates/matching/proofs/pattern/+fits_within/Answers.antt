@@ -1,119 +1,61 @@
-use Rattle.std.proofs.Common.{refl, ◌∙◌}
-use Rattle.store.proofs.Laws.{kept_refl, kept_same, kept_trans}
-use Rattle.matching.proofs.Fitting.{
-  fitting_starts,
-  fits_any,
-  fits_bind,
-  lacks_bind,
-  fits_alike,
-  misfit_leaf,
-  misfit_kind,
-  misfit_edge,
-  misfit_deep,
-  misfit_left,
-  lacks_left,
-  found_is,
-  fitting_goes_on,
-}
+use Rattle.std.proofs.Common.{rules, sym, arith}
+use Rattle.store.proofs.Growth.{grows_none, grows_on}
+use Rattle.matching.proofs.Fitting.{fitting_starts, fits_any, fits_leaf, fits_bind, lacks_bind, misfit_kind, misfit_edge, misfit_deep, misfit_left, lacks_left, found_is, fitting_goes_on}
 use Rattle.matching.proofs.pattern.+fits_within.Goals as goal
+use Rattle.matching.proofs.pattern.+fits_within.Goals.{then-node-value-via-then-node-value, then-node-value-via-else-node-value+then-depth-eq0}
 
 pub parts-init : goal.parts-init
-parts-init t c = (refl, kept_refl, fitting_starts)
+parts-init t c = (grows_none, fitting_starts)
 
-pub returns-in-Any : goal.returns-in-Any
-returns-in-Any t c =
-    record {
-      long = c.parts.invariant.0;
-      kept = c.parts.invariant.1;
-      cases = fits_any c.in-Any.ensures c.parts.invariant.2;
-    }
+pub returns-in-Any-clause-cases : goal.returns-in-Any-clause-cases
+returns-in-Any-clause-cases t c = fits_any c.in-Any.ensures c.parts.invariant.1
 
-pub returns-in-Ok : goal.returns-in-Ok
-returns-in-Ok t c =
-    let p = c.in-Ok.ensures in
-    record {
-      long = p.long ∙ c.parts.invariant.0;
-      kept = kept_trans c.parts.invariant.1 p.cases.kept;
-      cases = fits_bind c.in-Bind.ensures p.cases c.parts.invariant.2;
-    }
+pub returns-in_err-put-in-Bind-clause-cases : goal.returns-in_err-put-in-Bind-clause-cases
+returns-in_err-put-in-Bind-clause-cases t c =
+    let lacks = lacks_bind c.in-Bind.ensures c.parts.invariant.0 c.in_err-put-in-Bind.ensures.cases.short
+    c.parts.invariant.1 in
+    search rules
 
-pub returns-in-Err : goal.returns-in-Err
-returns-in-Err t c =
-    let p = c.in-Err.ensures in
-    record {
-      long = p.long ∙ c.parts.invariant.0;
-      kept = kept_same p.cases.same c.parts.invariant.1;
-      cases = lacks_bind c.in-Bind.ensures c.parts.invariant.0 p.cases.short c.parts.invariant.2;
-    }
+pub returns-in-Bind-clause-cases : goal.returns-in-Bind-clause-cases
+returns-in-Bind-clause-cases t c =
+    fits_bind c.in-Bind.ensures c.in_ok-put-in-Bind.ensures.cases c.parts.invariant.1
 
-pub returns-then-alike : goal.returns-then-alike
-returns-then-alike t c =
-    record {
-      long = c.parts.invariant.0;
-      kept = c.parts.invariant.1;
-      cases = fits_alike c.in-Leaf.ensures c.if-alike.ensures c.parts.invariant.2;
-    }
+pub returns-in-Leaf-clause-cases : goal.returns-in-Leaf-clause-cases
+returns-in-Leaf-clause-cases t c =
+    found_is (sym c.then_some.ensures) (fits_leaf _ c.in-Leaf.ensures c.eq.ensures c.parts.invariant.1)
 
-pub returns-else-alike : goal.returns-else-alike
-returns-else-alike t c =
-    record {
-      long = c.parts.invariant.0;
-      kept = c.parts.invariant.1;
-      cases = misfit_leaf c.in-Leaf.ensures c.if-alike.ensures c.parts.invariant.2;
-    }
+pub returns-then-node-value-clause-cases : goal.returns-then-node-value-clause-cases
+returns-then-node-value-clause-cases t c = elim c.then-node-value.branch [
+  | then-node-value-via-then-node-value w ↦
+      misfit_kind c.in-Node.ensures w.if-node-value.true c.parts.invariant.1
+  | then-node-value-via-else-node-value+then-depth-eq0 w ↦
+      misfit_deep c.in-Node.ensures w.if-node-value.false w.if-depth-eq0.true c.parts.invariant.1
+]
 
-pub returns-then-node-value : goal.returns-then-node-value
-returns-then-node-value t c =
-    record {
-      long = c.parts.invariant.0;
-      kept = c.parts.invariant.1;
-      cases = misfit_kind c.in-Node.ensures c.if-node-value.true c.parts.invariant.2;
-    }
+pub returns-in_err-bound-clause-cases : goal.returns-in_err-bound-clause-cases
+returns-in_err-bound-clause-cases t c =
+    let lacks = lacks_left c.in-Node.ensures c.if-node-value.false c.both-parts.ensures.left
+    c.both-values.ensures.left c.parts.invariant.0 c.in_err-bound.ensures.cases c.parts.invariant.1 in
+    search rules
 
-pub returns-then-left-eq0 : goal.returns-then-left-eq0
-returns-then-left-eq0 t c =
-    record {
-      long = c.parts.invariant.0;
-      kept = c.parts.invariant.1;
-      cases = misfit_edge c.in-Node.ensures c.if-node-value.false c.if-left-eq0.true
-          c.parts.invariant.2;
-    }
-
-pub returns-then-depth-eq0 : goal.returns-then-depth-eq0
-returns-then-depth-eq0 t c =
-    record {
-      long = c.parts.invariant.0;
-      kept = c.parts.invariant.1;
-      cases = misfit_deep c.in-Node.ensures c.if-node-value.false c.if-depth-eq0.true
-          c.parts.invariant.2;
-    }
-
-pub returns-in-Err-fits_within : goal.returns-in-Err-fits_within
-returns-in-Err-fits_within t c =
-    let p = c.in-Err-fits_within.ensures in
-    record {
-      long = p.long ∙ c.parts.invariant.0;
-      kept = kept_trans c.parts.invariant.1 p.kept;
-      cases = lacks_left c.in-Node.ensures c.if-node-value.false c.both-parts.ensures.left
-          c.both-values.ensures.left c.parts.invariant.0 p.cases c.parts.invariant.2;
-    }
-
-pub returns-in-None : goal.returns-in-None
-returns-in-None t c =
-    let p = c.in-Ok-fits_within.ensures in
-    record {
-      long = p.long ∙ c.parts.invariant.0;
-      kept = kept_trans c.parts.invariant.1 p.kept;
-      cases = misfit_left c.in-Node.ensures c.if-node-value.false c.both-parts.ensures.left
-          c.both-values.ensures.left (found_is c.in-None.is p.cases) c.parts.invariant.2;
-    }
+pub returns-in_default-clause-cases : goal.returns-in_default-clause-cases
+returns-in_default-clause-cases t c =
+    misfit_left c.in-Node.ensures c.if-node-value.false c.both-parts.ensures.left c.both-values.ensures.left
+    (found_is c.in_default.is c.in_ok-bound.ensures.cases) c.parts.invariant.1
 
 pub parts-preserved : goal.parts-preserved
 parts-preserved t c =
-    let p = c.in-Ok-fits_within.ensures in (
-      p.long ∙ c.parts.invariant.0,
-      kept_trans c.parts.invariant.1 p.kept,
+    let p = c.in_ok-bound.ensures in (
+      grows_on c.parts.invariant.0 p.grows,
       fitting_goes_on c.in-Node.ensures c.if-node-value.false c.both-parts.ensures.left
           c.both-parts.ensures.right c.both-values.ensures.left
-          c.both-values.ensures.right p.kept (found_is c.in-Some.is p.cases) c.parts.invariant.2,
+          c.both-values.ensures.right p.grows (found_is c.in-Some.is p.cases) c.parts.invariant.1,
     )
+
+pub returns-in-Some-clause-cases : goal.returns-in-Some-clause-cases
+returns-in-Some-clause-cases t c =
+    let p = c.in_ok-bound.ensures in
+    misfit_edge (omega arith)
+    (fitting_goes_on c.in-Node.ensures c.if-node-value.false c.both-parts.ensures.left
+    c.both-parts.ensures.right c.both-values.ensures.left
+    c.both-values.ensures.right p.grows (found_is c.in-Some.is p.cases) c.parts.invariant.1)

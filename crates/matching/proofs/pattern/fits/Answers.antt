@@ -1,29 +1,13 @@
 use Rattle.std.proofs.Common.{refl}
-use Rattle.store.proofs.Laws.{kept_back}
-use Rattle.matching.proofs.Fitting.{found_is}
-use Rattle.matching.proofs.Agreeing.{matches_none, matches_some, match_lacks}
+use Rattle.matching.proofs.Agreeing.{ends_without, ends_with}
 use Rattle.matching.proofs.pattern.fits.Goals as goal
 
-pub returns-in-Err : goal.returns-in-Err
-returns-in-Err c =
-    let p = c.in-Err.ensures in record {
-      long = p.long;
-      kept = kept_back p.kept;
-      cases = match_lacks p.cases refl;
-    }
+pub returns-then-is_none-clause-cases : goal.returns-then-is_none-clause-cases
+returns-then-is_none-clause-cases c =
+    ends_without _ _ _ _ _ _ _ _ c.ok.ensures.value c.flatten.ensures c.is_none.ensures c.if-is_none.true
+    c.fits_within-found.ensures.cases refl
 
-pub returns-in-Some : goal.returns-in-Some
-returns-in-Some c =
-    let p = c.in-Ok.ensures in record {
-      long = p.long;
-      kept = p.kept;
-      cases = matches_some (found_is c.in-Some.is p.cases);
-    }
-
-pub returns-in-None : goal.returns-in-None
-returns-in-None c =
-    let p = c.in-Ok.ensures in record {
-      long = p.long;
-      kept = kept_back p.kept;
-      cases = matches_none (found_is c.in-None.is p.cases) refl;
-    }
+pub returns-else-is_none-clause-cases : goal.returns-else-is_none-clause-cases
+returns-else-is_none-clause-cases c =
+    ends_with _ _ _ _ _ _ _ c.ok.ensures.value c.flatten.ensures c.is_none.ensures c.if-is_none.false
+    c.fits_within-found.ensures.cases

@@ -1,11 +1,8 @@
-use Rattle.std.proofs.Common.{rules}
+use Rattle.std.proofs.Common.{arith}
 use Rattle.names.specs.Names.{own_atoms}
+use Rattle.names.proofs.Keywords.{get_or_now}
 use Rattle.names.proofs.own.own_atom.Goals as goal
 
-pub returns-then-number-lt-OWN_ATOMS : goal.returns-then-number-lt-OWN_ATOMS
+pub returns : goal.returns
 unfolding own_atoms
-returns-then-number-lt-OWN_ATOMS c = search rules
-
-pub returns-else-number-lt-OWN_ATOMS : goal.returns-else-number-lt-OWN_ATOMS
-unfolding own_atoms
-returns-else-number-lt-OWN_ATOMS c = search rules
+returns c = rw (c.unwrap_or.ensures, c.copied.ensures, c.get.ensures.lookup.4 (omega arith), get_or_now)

@@ -1,16 +1,10 @@
-use Rattle.std.proofs.Common.{arith}
-use Rattle.std.proofs.lemmas.Int.{ints}
 use Rattle.numbers.proofs.Dividing.{quotient_lowered, quotient_kept}
 use Rattle.numbers.proofs.division.divide.Goals as goal
 
 pub returns-then-has_other_sign : goal.returns-then-has_other_sign
 returns-then-has_other_sign c =
-    let h = quotient_lowered c.args.a c.args.b c.ranges.a c.ranges.b
-    c.if-b-eq0.false c.if-b-eqminus1.false c.if-has_other_sign.ensures in
-    (h.nonzero, h.fitting, omega (arith, ints, h.range, h.value))
+    quotient_lowered c.args.a c.args.b c.ranges.a c.ranges.b c.if-b-eq0.false c.if-b-eqminus1.false c.if-has_other_sign.ensures
 
 pub returns-else-has_other_sign : goal.returns-else-has_other_sign
 returns-else-has_other_sign c =
-    let h = quotient_kept c.args.a c.args.b c.ranges.a c.ranges.b
-    c.if-b-eq0.false c.if-b-eqminus1.false c.if-has_other_sign.ensures in
-    (h.nonzero, h.fitting, omega (arith, ints, h.range, h.value))
+    quotient_kept c.args.a c.args.b c.ranges.a c.ranges.b c.if-b-eq0.false c.if-b-eqminus1.false c.if-has_other_sign.ensures

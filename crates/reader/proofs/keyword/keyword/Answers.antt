@@ -1,21 +1,18 @@
-use Rattle.std.proofs.Common.{eqb, length, arith, eq-eqb}
-use Rattle.meaning.specs.Grammar.{keywords}
-use Rattle.reader.specs.Classes.{other_length}
-use Rattle.reader.proofs.Words.{reserved_with_length, is_other_length}
+use Rattle.std.proofs.Common.{map, ap, refl, rules}
+use Rattle.std.proofs.lemmas.Iterator.{YieldsList-from_slice}
+use Rattle.std.proofs.lemmas.Iterator.Search.{find_from_yields_List}
+use Rattle.std.proofs.lemmas.Slice.Eq.{compares_Decides}
+use Rattle.meaning.specs.Basics.{same}
+use Rattle.reader.proofs.Words.{entry_of, is_right, class_of_found, reserved_by_entries}
 use Rattle.reader.proofs.keyword.keyword.Goals as goal
 
-pub returns-in-4 : goal.returns-in-4
-returns-in-4 c =
-    reserved_with_length (λ n. eqb n 4) keywords c.args.word.now c.keyword_of_four.result
-    (eq-eqb (length c.args.word.now) 4 c.in-4.is) c.keyword_of_four.ensures
-
-pub returns-in-5 : goal.returns-in-5
-returns-in-5 c =
-    reserved_with_length (λ n. eqb n 5) keywords c.args.word.now c.keyword_of_five.result
-    (eq-eqb (length c.args.word.now) 5 c.in-5.is) c.keyword_of_five.ensures
-
-pub returns-in_default : goal.returns-in_default
-returns-in_default c =
-    reserved_with_length other_length keywords c.args.word.now c.keyword_of_other_length.result
-    (is_other_length (length c.args.word.now) (λ e. omega arith) (λ e. omega arith))
-    c.keyword_of_other_length.ensures
+pub returns : goal.returns
+returns c =
+    let w = c.args.word.now in
+    reserved_by_entries w c.iter.result.rest.now _ c.map.result
+    (rw c.iter.ensures.rest (search (rules, is_right)))
+    (ap (λ es. map (λ e. e.0) (map entry_of es)) c.iter.ensures.rest)
+    (find_from_yields_List (λ e. same w e.0.now) _ _ c.find.result c.find.ensures.ran
+    (YieldsList-from_slice {s = c.iter.result} c.iter.result.rest.now refl)
+    (λ x b q k. search (rules, compares_Decides same (search rules))))
+    (class_of_found _ (λ e r k. search rules) c.find.result c.map.result c.map.ensures.cases)

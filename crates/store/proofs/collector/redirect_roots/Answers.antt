@@ -1,26 +1,22 @@
-use Rattle.std.proofs.Common.{◌≡◌, ap, ◌∙◌, subst, arith}
-use Rattle.store.specs.Collect.{own, Redirected}
-use Rattle.store.specs.Slots.{slot_at}
-use Rattle.store.proofs.Collecting.{own_more, own-one, redirected_at, redirected_step}
+use Rattle.std.proofs.Common.{◌+◌, ℕ, List, sym, subst}
+use Rattle.store.proofs.Collecting.{Redirecting, redirecting_leaf, redirecting_node}
 use Rattle.store.proofs.collector.redirect_roots.Goals as goal
+use Rattle.store.proofs.collector.redirect_roots.Goals.{then-root-ge-FIRST_NODE, else-root-ge-FIRST_NODE}
 
 pub loop-i-preserved : goal.loop-i-preserved
 loop-i-preserved c =
-    let old = slot_at c.args.roots.now c.loop-i.i in
-    let root : c.load_slot-root.result ≡ old = c.load_slot-root.ensures
-    ∙ c.loop-i.invariant.3 c.loop-i.i (omega arith) in
-    let own_is : c.own_cells-next.result ≡ own old = c.own_cells-next.ensures ∙ ap own root in
-    let r = subst (λ n. Redirected n old c.redirected.result) c.loop-i.invariant.1
-    (redirected_at root c.redirected.ensures) in (
-      omega (arith, c.loop-i.invariant.0, own_is, own-one old),
-      omega (arith, c.loop-i.invariant.1, own_is, own_more c.args.roots.now c.loop-i.i),
-      redirected_step c.args.roots.now c.loop-i.i r c.set_slot.ensures c.loop-i.invariant.2,
-      (λ k b. c.set_slot.ensures.other k (λ e. omega arith) ∙ c.loop-i.invariant.3 k (omega arith)),
-    )
-
-pub returns : goal.returns
-returns c =
-    record {
-      moved = λ i b. c.loop-i.invariant.2 i (omega (arith, c.loop-i-test.false));
-      rest = λ i b. c.loop-i.invariant.3 i (omega (arith, c.loop-i.auto.i-end));
-    }
+    let old = c.args.roots.now in
+    let at = c.load_slot-root.ensures in
+    let inv = c.loop-i.invariant in
+    elim c.if-root-ge-FIRST_NODE.branch [
+      | then-root-ge-FIRST_NODE w ↦
+          let kind = w.slot.ensures.kind in
+          let place = w.slot.ensures.place in
+          subst (λ (n : ℕ). Redirecting old c.if-root-ge-FIRST_NODE.roots n (c.loop-i.i + 1)) (sym w.next-is)
+          (subst (λ (r : List ℕ). Redirecting old r (c.loop-i.next + 1) (c.loop-i.i + 1)) (sym w.roots-is)
+          (redirecting_node at w.if-root-ge-FIRST_NODE.true kind place w.set_slot.ensures inv))
+      | else-root-ge-FIRST_NODE w ↦
+          subst (λ (n : ℕ). Redirecting old c.if-root-ge-FIRST_NODE.roots n (c.loop-i.i + 1)) (sym w.next-is)
+          (subst (λ (r : List ℕ). Redirecting old r c.loop-i.next (c.loop-i.i + 1)) (sym w.roots-is)
+          (redirecting_leaf at w.if-root-ge-FIRST_NODE.false inv))
+    ]

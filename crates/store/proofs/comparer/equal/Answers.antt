@@ -1,77 +1,62 @@
-use Rattle.std.proofs.Common.{◌≡◌, ◌<◌, refl, inl, inr, arith, rules}
-use Rattle.store.proofs.Comparing.{alike_told, comparing_differs, comparing_done, comparing_lefts}
-use Rattle.store.proofs.Comparing.{comparing_next, comparing_rights, comparing_short}
+use Rattle.std.proofs.Common.{◌≡◌, ◌<◌, length, refl, inl, inr, ap, ◌∙◌, arith, rules}
+use Rattle.std.proofs.lemmas.Result.{MatchResult-from_err}
+use Rattle.store.proofs.Comparing.{comparing_differs, comparing_done, comparing_lefts, comparing_next, comparing_rights, comparing_short, comparing_start}
 use Rattle.store.proofs.comparer.equal.Goals as goal
 
-pub returns-in-Differ : goal.returns-in-Differ
-returns-in-Differ c =
-    let differ = c.in-Differ.ensures in
+pub returns-in-Differ-clause-cases : goal.returns-in-Differ-clause-cases
+returns-in-Differ-clause-cases c = record {
+  is = λ {used} {s} {t} d e. comparing_differs c.in-Differ.ensures (c.pairs.invariant.comparing used s t d e);
+}
+
+pub pairs-preserved-in-Some : goal.pairs-preserved-in-Some
+pairs-preserved-in-Some c =
+    let top = c.in-Some.ensures.cases in
     record {
-      cases = record { is = λ {used} {s} {t} d e. comparing_differs differ (c.pairs.invariant.0 used s t d e) };
-      alike = λ e. absurd (alike_told differ (c.pairs.invariant.1 e).0);
+      long = ap (λ w. length w.now) c.pop.ensures.words ∙ c.pairs.invariant.long;
+      comparing = λ used s t d e. comparing_next c.in-Same.ensures top (c.pairs.invariant.comparing used s t d e);
+      alike = λ e. let none = (c.pairs.invariant.alike e).1 in absurd (omega (arith, ap length none, ap length top));
     }
 
-pub returns-then-depth-eq0 : goal.returns-then-depth-eq0
-returns-then-depth-eq0 c =
-    let same = c.in-Same.ensures in
-    record {
-      cases = record {
-        is = λ {used} {s} {t} d e. comparing_done same c.if-depth-eq0.true
-            (c.pairs.invariant.0 used s t d e);
-      };
-      alike = λ e. refl;
-    }
+pub returns-in-None-clause-cases : goal.returns-in-None-clause-cases
+returns-in-None-clause-cases c = record {
+  is = λ {used} {s} {t} d e.
+      comparing_done c.in-Same.ensures c.in-None.ensures.cases.0 (c.pairs.invariant.comparing used s t d e);
+}
 
-pub pairs-preserved-in-Same : goal.pairs-preserved-in-Same
-pairs-preserved-in-Same c =
-    let same = c.in-Same.ensures in
-    let some : 0 < c.pairs.depth = omega (arith, c.if-depth-eq0.false) in (
-      (λ used s t d e. comparing_next same some c.read_cell-pair.ensures (c.pairs.invariant.0 used s t d e)),
-      (λ e. absurd (c.if-depth-eq0.false (c.pairs.invariant.1 e).1)),
-    )
+pub returns-then-left-eq0-clause-cases : goal.returns-then-left-eq0-clause-cases
+returns-then-left-eq0-clause-cases c = record {
+  short = λ {used} {s} {t} d e.
+      let short = comparing_short c.in-Parts.ensures (c.pairs.invariant.comparing used s t d e) in
+      inr (omega (arith, short, c.if-left-eq0.true));
+}
 
-pub returns-then-left-eq0 : goal.returns-then-left-eq0
-returns-then-left-eq0 c =
-    let parts = c.in-Parts.ensures in
-    record {
-      cases = record {
-        short = λ {used} {s} {t} d e.
-            let short = comparing_short parts (c.pairs.invariant.0 used s t d e) in inr
-            (omega (arith, short, c.if-left-eq0.true));
-      };
-      alike = λ e. absurd (parts.2 (c.pairs.invariant.1 e).0);
-    }
-
-pub returns-in-Err : goal.returns-in-Err
-returns-in-Err c =
-    let parts = c.in-Parts.ensures in
-    let full = c.in-Err.ensures.0 in
-    record {
-      cases = record {
-        short = λ {used} {s} {t} d e.
-            let short = comparing_short parts (c.pairs.invariant.0 used s t d e) in inl
-            (omega (arith, short, full, c.pairs.auto.scratch));
-      };
-      alike = λ e. absurd (parts.2 (c.pairs.invariant.1 e).0);
-    }
-
-pub pairs-preserved : goal.pairs-preserved
-pairs-preserved c =
-    let parts = c.in-Parts.ensures in
-    let some : 0 < c.pairs.left = omega (arith, c.if-left-eq0.false) in (
-      (λ used s t d e.
-          comparing_lefts {w = c.pairs.scratch} {w' = c.write_cell.new.words} {depth = c.pairs.depth} parts
-          some c.both-one.ensures c.both-two.ensures c.in-Ok.ensures.1
-          (c.pairs.invariant.0 used s t d e)),
-      (λ e. absurd (parts.2 (c.pairs.invariant.1 e).0)),
-    )
+pub returns-in_err-push-in-Parts-clause-cases : goal.returns-in_err-push-in-Parts-clause-cases
+returns-in_err-push-in-Parts-clause-cases c = MatchResult-from_err _ _ _ c.from_residual.ensures.0 (λ r. record {
+  short = λ {used} {s} {t} d e.
+      let short = comparing_short c.in-Parts.ensures (c.pairs.invariant.comparing used s t d e) in
+      let room = c.pairs.invariant.long ∙ ap length c.new-waiting.ensures.words in
+      inl (omega (arith, short, c.in_err-push-in-Parts.ensures.cases.0, room));
+})
 
 pub pairs-preserved-then-eq : goal.pairs-preserved-then-eq
 pairs-preserved-then-eq c =
     let parts = c.in-Parts.ensures in
     let some : 0 < c.pairs.left = omega (arith, c.if-left-eq0.false) in
-    let alike : c.both-one.result.left ≡ c.both-two.result.left = search rules in (
-      (λ used s t d e. comparing_rights parts some c.both-one.ensures c.both-two.ensures alike
-          (c.pairs.invariant.0 used s t d e)),
-      (λ e. absurd (parts.2 (c.pairs.invariant.1 e).0)),
-    )
+    let same : c.both-one.result.left ≡ c.both-two.result.left = search rules in
+    record {
+      long = c.pairs.invariant.long;
+      comparing = λ used s t d e. comparing_rights parts some c.both-one.ensures c.both-two.ensures same
+          (c.pairs.invariant.comparing used s t d e);
+      alike = λ e. absurd (parts.2 (c.pairs.invariant.alike e).0);
+    }
+
+pub pairs-preserved : goal.pairs-preserved
+pairs-preserved c =
+    let parts = c.in-Parts.ensures in
+    let some : 0 < c.pairs.left = omega (arith, c.if-left-eq0.false) in
+    record {
+      long = c.push.ensures.long ∙ c.pairs.invariant.long;
+      comparing = λ used s t d e. comparing_lefts parts some c.both-one.ensures c.both-two.ensures
+          c.in_ok-push-in-Parts.ensures.cases.1 (c.pairs.invariant.comparing used s t d e);
+      alike = λ e. absurd (parts.2 (c.pairs.invariant.alike e).0);
+    }

@@ -1,22 +1,14 @@
-use Rattle.std.proofs.Common.{◌∙◌}
-use Rattle.tokens.proofs.Placing.{passes_none, passes_all, passes_line, passes_column}
+use Rattle.std.proofs.Common.{rules}
+use Rattle.std.proofs.lemmas.Fn.{fold_over, fronts}
+use Rattle.std.proofs.lemmas.Iterator.{YieldsList-from_slice}
+use Rattle.tokens.specs.Position.{Passes}
+use Rattle.tokens.proofs.Placing.{passes_none, passes_then}
 use Rattle.tokens.proofs.position.Position.past.Goals as goal
-use Rattle.tokens.proofs.position.Position.past.Goals.{then-byte-eq10, else-byte-eq10}
-
-pub loop-byte-init : goal.loop-byte-init
-loop-byte-init c = passes_none c.args.bytes.now c.args.self.line c.args.self.column
-
-pub loop-byte-preserved : goal.loop-byte-preserved
-loop-byte-preserved c =
-    elim c.if-byte-eq10.branch [
-      | then-byte-eq10 w ↦ passes_line c.args.bytes.now c.loop-byte.byte-index _ _ _ _ _ _
-          c.loop-byte-test.true c.loop-byte.invariant w.if-byte-eq10.true
-          (w.line-is ∙ w.saturating_add-line.ensures) w.column-is
-      | else-byte-eq10 w ↦ passes_column c.args.bytes.now c.loop-byte.byte-index _ _ _ _ _ _
-          c.loop-byte-test.true c.loop-byte.invariant w.if-byte-eq10.false w.line-is
-          (w.column-is ∙ w.saturating_add-column.ensures)
-    ]
 
 pub returns : goal.returns
-returns c = passes_all c.args.bytes.now c.loop-byte.byte-index c.args.self.line
-    c.args.self.column c.loop-byte.line c.loop-byte.column c.loop-byte-test.false c.loop-byte.invariant
+returns c =
+    let start = c.args.self in
+    fold_over fronts _ _ (λ ys a. Passes start.line start.column ys a.line a.column) _
+    (λ ys a x b f' h called. (passes_then ys x.now h (search rules), search rules))
+    c.iter.result c.args.bytes.now start c.fold.result (YieldsList-from_slice {s = c.iter.result} c.args.bytes.now cc).runs
+    (passes_none start.line start.column) c.fold.ensures.ran
