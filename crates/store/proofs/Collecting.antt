@@ -293,14 +293,6 @@ pub record Ahead (from : Store) (to roots : List ℕ) (i n used whole : ℕ) : T
   pub waiting : Waiting from to 0 used sum
   pub adds : sum + total rest ≡ whole
 
-pub ahead_done : {from : Store} {to roots : List ℕ} {i n used whole : ℕ} → n ≤ i → Ahead from to roots i n used whole
-    → Waiting from to 0 used whole
-ahead_done {from} {to} {roots} {i} {n} {used} {whole} le a = go a.rest a.long a.adds
-  where
-    go : (ts : List Tree) → i + length ts ≡ n → a.sum + total ts ≡ whole → Waiting from to 0 used whole
-    go [] l e = let q : a.sum ≡ whole = omega arith in subst (Waiting from to 0 used) q a.waiting
-    go (t ∷ ts) l e = absurd (omega arith)
-
 -- the root that is copied next
 pub record NextRoot (from : Store) (to roots : List ℕ) (i n used whole : ℕ) : Type 0 where
   pub tree : Tree

@@ -35,21 +35,6 @@ told-differ {m} {x} {y} s t w d d' =
       | inr e ↦ e
     ]
 
-pub comparing_start : {m : Store} {w : List Cell} {x y : Slot} {budget : ℕ} {s t : Tree} → w ≡ [] → Den m x s
-    → Den m y t → Comparing m w x y budget budget s t
-comparing_start {m} {w} {s} {t} z d e =
-    record {
-      one = s;
-      two = t;
-      rest = [];
-      here = d;
-      there = e;
-      stand = subst (λ v. Pairs m v []) (sym z) tt;
-      same = sym (and-true (same_tree s t));
-      steps = omega arith;
-      room = omega (arith, ap length z);
-    }
-
 pub comparing_differs : {m : Store} {w : List Cell} {x y : Slot} {budget left : ℕ} {s t : Tree} → Told x y Differ
     → Comparing m w x y budget left s t → false ≡ same_tree s t
 comparing_differs e k =

@@ -1,7 +1,7 @@
 use Rattle.std.proofs.Common.{◌+◌, sym, refl, subst, arith}
 use Rattle.std.proofs.lemmas.Result.{MatchResult-from_err}
 use Rattle.store.specs.declared.heap.Heap.{Heap}
-use Rattle.store.proofs.Collecting.{RootsBelow, ahead_done, appended_at, next_root, roots_below_leaf, roots_below_step, takes_cell}
+use Rattle.store.proofs.Collecting.{RootsBelow, appended_at, next_root, roots_below_leaf, roots_below_step, takes_cell}
 use Rattle.store.proofs.Laws.{den_at}
 use Rattle.store.proofs.collector.copy_roots.Goals as goal
 use Rattle.store.proofs.collector.copy_roots.Goals.{then-root-ge-FIRST_NODE+in_ok-copy_cell, else-root-ge-FIRST_NODE}

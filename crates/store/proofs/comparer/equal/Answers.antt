@@ -1,6 +1,6 @@
 use Rattle.std.proofs.Common.{◌≡◌, ◌<◌, length, refl, inl, inr, ap, ◌∙◌, arith, rules}
 use Rattle.std.proofs.lemmas.Result.{MatchResult-from_err}
-use Rattle.store.proofs.Comparing.{comparing_differs, comparing_done, comparing_lefts, comparing_next, comparing_rights, comparing_short, comparing_start}
+use Rattle.store.proofs.Comparing.{comparing_differs, comparing_done, comparing_lefts, comparing_next, comparing_rights, comparing_short}
 use Rattle.store.proofs.comparer.equal.Goals as goal
 
 pub returns-in-Differ-clause-cases : goal.returns-in-Differ-clause-cases
