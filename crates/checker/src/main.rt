@@ -9,7 +9,7 @@ mod options;
 mod report;
 
 use failure::Failure;
-use input::read_text;
+use input::{ROOM, read_text};
 use options::Detail;
 use report::report;
 use std::io::Write;
@@ -27,8 +27,9 @@ fn main(rt: HostRuntime) -> ExitCode {
 
 fn run(rt: &HostRuntime) -> Result<(), Failure> {
     let detail = Detail::from_arguments(rt)?;
-    let text = read_text(rt.alloc(), &mut rt.stdin())?;
-    let answer = report(rt.alloc(), text.as_slice(), detail)?;
+    let mut buffer = [0; ROOM];
+    let length = read_text(&mut rt.stdin(), &mut buffer)?;
+    let answer = report(rt.alloc(), &buffer[..length], detail)?;
     rt.stdout()
         .write_all(answer.as_slice())
         .map_err(Failure::Output)
