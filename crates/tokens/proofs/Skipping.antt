@@ -1,98 +1,65 @@
--- What is skipped before a token: blanks and comments complete none. A comment goes on to its first line feed,
--- and what was passed so far and one more blank or comment were passed together.
-use Rattle.std.proofs.Common.{◌≡◌, ℕ, suc, ◌+◌, ◌<◌, true, false, Bool, cond, not, eqb, ltb, Option, ◌⊎◌, inl, inr, Some, None, List, [], ◌∷◌, ◌++◌, length, take, sym, refl, ap, ◌∙◌, append_assoc, arith}
-use Rattle.std.specs.Prelude.{unwrap_or}
-use Rattle.std.specs.List.{position}
-use Rattle.std.proofs.lemmas.Bool.{cases_Bool, eq-eqb, ltb-true, ltb-false}
-use Rattle.std.proofs.lemmas.Option.{none-some}
-use Rattle.std.proofs.lemmas.List.Sums.{prefix_len-le-length}
-use Rattle.std.proofs.lemmas.List.{take-append-drop}
-use Rattle.meaning.specs.Tokens.{is_blank, gap, comment, tokens}
-use Rattle.tokens.specs.Cutting.{Skips, stays_comment, comment_len, CommentEnds}
-use Rattle.tokens.specs.Position.{ends_line}
+-- The loops that skip: the bytes passed so far complete no token, and one more byte, or a comment, keeps that so.
+use Rattle.std.proofs.Common.{◌≡◌, ℕ, ◌+◌, ◌<◌, ◌≤◌, true, false, List, [], ◌∷◌, ◌++◌, length, get_or, take, drop, sym, ap, ◌∙◌, append-nil}
+use Rattle.std.proofs.lemmas.Bool.{eq-eqb, ne_eqb}
+use Rattle.std.specs.List.{between}
+use Rattle.std.proofs.lemmas.List.{take_more, take-take, take-append-drop, take_all}
+use Rattle.std.proofs.lemmas.List.Edits.{between_more}
+use Rattle.std.proofs.lemmas.Slice.{between_is, between_to_end}
+use Rattle.meaning.specs.Tokens.{is_blank, Lexing, gap, comment, tokens}
+use Rattle.tokens.specs.Cutting.{Skips}
 use Rattle.tokens.proofs.Reading.{skips_append, blank_skips, comment_begins, comment_skips, comment_ends}
 
--- the text, but for the rest, holds no token
-pub record Passed (text rest : List ℕ) : Type 0 where
-  pub front : List ℕ
-  pub place : text ≡ front ++ rest
-  pub skips : Skips gap front gap
+pub skips_then : (l m n : Lexing) (u s t : List ℕ) → u ≡ s ++ t → Skips l s m → Skips m t n → Skips l u n
+skips_then l m n u s t is p q rest = ap (λ v. tokens l (v ++ rest)) is ∙ skips_append l m n s t p q rest
 
-pub passed_more : {text : List ℕ} (more : List ℕ) {rest left : List ℕ} → Passed text rest → rest ≡ more ++ left
-    → Skips gap more gap → Passed text left
-passed_more more {left = left} p is q = record {
-  front = p.front ++ more;
-  place = p.place ∙ (ap (λ s. p.front ++ s) is ∙ sym (append_assoc p.front more left));
-  skips = skips_append gap gap gap p.front more p.skips q;
-}
+-- nothing is completed in bytes that are skipped
+pub skipped_none : (l m : Lexing) (s : List ℕ) → Skips l s m → tokens l s ≡ tokens m []
+skipped_none l m s p = sym (ap (tokens l) (append-nil s)) ∙ p []
 
--- how long a comment is that begins with c
-module _ (c : ℕ) (text : List ℕ) where
-  pub comment_len_at : eqb c 10 ≡ true → comment_len (c ∷ text) ≡ 0
-  comment_len_at ends = ap (λ b. cond (not b) (1 + comment_len text) 0) ends
+-- one more byte of the text
+module _ (t : List ℕ) (at : ℕ) (h : at < length t) where
+  take_skips : (m : Lexing) → Skips gap (take at t) gap → Skips gap (get_or t at 0 ∷ []) m → Skips gap (take (at + 1) t) m
+  take_skips m p q = skips_then gap gap m (take (at + 1) t) (take at t) (get_or t at 0 ∷ []) (take_more t at 0 h) p q
 
-  pub comment_len_more : eqb c 10 ≡ false → comment_len (c ∷ text) ≡ 1 + comment_len text
-  comment_len_more on = ap (λ b. cond (not b) (1 + comment_len text) 0) on
+  pub blank_passed : is_blank (get_or t at 0) ≡ true → Skips gap (take at t) gap → Skips gap (take (at + 1) t) gap
+  blank_passed blank p = take_skips gap p (blank_skips (get_or t at 0) blank)
 
--- a comment to its line feed, or to the end of the text
-pub comment_skipped : (text : List ℕ) → comment_len text < length text
-    → Skips comment (take (comment_len text + 1) text) gap
-comment_skipped [] h = absurd (omega (arith, h))
-comment_skipped (c ∷ text) h = way (cases_Bool (eqb c 10)) (comment_skipped text)
-  where
-    way : (eqb c 10 ≡ true) ⊎ (eqb c 10 ≡ false)
-        → (comment_len text < length text → Skips comment (take (comment_len text + 1) text) gap)
-        → Skips comment (take (comment_len (c ∷ text) + 1) (c ∷ text)) gap
-    way (inl ends) more rest =
-        ap (λ n. tokens comment (take (n + 1) (c ∷ text) ++ rest)) (comment_len_at c text ends) ∙ comment_ends c ends rest
-    way (inr on) more rest =
-        let long : comment_len (c ∷ text) + 1 ≡ suc (comment_len text + 1) = omega (arith, comment_len_more c text on) in
-        ap (λ n. tokens comment (take n (c ∷ text) ++ rest)) long
-        ∙ (comment_skips c on (take (comment_len text + 1) text ++ rest)
-        ∙ more (omega (arith, h, comment_len_more c text on)) rest)
+  pub comment_entered : is_blank (get_or t at 0) ≡ false → get_or t at 0 ≡ 35 → Skips gap (take at t) gap
+      → Skips gap (take (at + 1) t) comment
+  comment_entered blank hash p = take_skips comment p
+      (comment_begins (get_or t at 0) blank (eq-eqb (get_or t at 0) 35 hash))
 
-pub comment_unended : (text : List ℕ) → comment_len text ≡ length text → tokens comment text ≡ []
-comment_unended [] e = refl
-comment_unended (c ∷ text) e = way (cases_Bool (eqb c 10)) (comment_unended text)
-  where
-    way : (eqb c 10 ≡ true) ⊎ (eqb c 10 ≡ false) → (comment_len text ≡ length text → tokens comment text ≡ [])
-        → tokens comment (c ∷ text) ≡ []
-    way (inl ends) more = absurd (omega (arith, e, comment_len_at c text ends))
-    way (inr on) more = comment_skips c on text ∙ more (omega (arith, e, comment_len_more c text on))
+  module _ (from : ℕ) (l : from ≤ at) (p : Skips comment (between from at t) comment) where
+    between_skips : (m : Lexing) → Skips comment (get_or t at 0 ∷ []) m → Skips comment (between from (at + 1) t) m
+    between_skips m q = skips_then comment comment m (between from (at + 1) t) (between from at t) (get_or t at 0 ∷ [])
+        (between_more t from at 0 l h) p q
 
--- what the search for the line feed finds
-pub no_line_feed : (text : List ℕ) → None ≡ position ends_line text → comment_len text ≡ length text
-no_line_feed text e = way (cases_Bool (ltb (comment_len text) (length text)))
-  where
-    found : Bool → Option ℕ
-    found b = cond b (Some (comment_len text)) None
+    pub comment_passed : (get_or t at 0 ≡ 10 → ⊥) → Skips comment (between from (at + 1) t) comment
+    comment_passed other = between_skips comment (comment_skips (get_or t at 0) (ne_eqb (get_or t at 0) 10 other))
 
-    way : (ltb (comment_len text) (length text) ≡ true) ⊎ (ltb (comment_len text) (length text) ≡ false)
-        → comment_len text ≡ length text
-    way (inl below) = absurd (none-some _ (e ∙ ap found below))
-    way (inr above) = omega (arith, ltb-false _ _ above, prefix_len-le-length stays_comment text)
+    pub comment_left : get_or t at 0 ≡ 10 → Skips comment (between from (at + 1) t) gap
+    comment_left ends = between_skips gap (comment_ends (get_or t at 0) (eq-eqb (get_or t at 0) 10 ends))
 
-pub line_feed_first : (text : List ℕ) (n : ℕ) → Some n ≡ position ends_line text
-    → (n ≡ comment_len text) × (comment_len text < length text)
-line_feed_first text n e = way (cases_Bool (ltb (comment_len text) (length text)))
-  where
-    found : Bool → Option ℕ
-    found b = cond b (Some (comment_len text)) None
+-- a comment that is not ended holds the rest of the text
+pub comment_open : (t : List ℕ) (from at : ℕ) → length t ≤ at → Skips comment (between from at t) comment
+    → tokens comment (drop from t) ≡ []
+comment_open t from at h p = sym (ap (tokens comment) (between_to_end t from at h))
+    ∙ skipped_none comment comment (between from at t) p
 
-    way : (ltb (comment_len text) (length text) ≡ true) ⊎ (ltb (comment_len text) (length text) ≡ false)
-        → (n ≡ comment_len text) × (comment_len text < length text)
-    way (inl below) = (ap (λ o. unwrap_or o 0) (e ∙ ap found below), ltb-true _ _ below)
-    way (inr above) = absurd (none-some _ (sym (e ∙ ap found above)))
+pub take-between : (t : List ℕ) (at n : ℕ) → at ≤ n → take n t ≡ take at t ++ between at n t
+take-between t at n l =
+    sym (take-append-drop at (take n t))
+    ∙ (ap (λ s. s ++ drop at (take n t)) (take-take at n t l) ∙ sym (ap (λ s. take at t ++ s) (between_is t at n)))
 
--- one more blank, or one more comment
-module _ {text rest behind : List ℕ} (c : ℕ) (p : Passed text rest) (is : rest ≡ c ∷ behind) where
-  pub passed_blank : is_blank c ≡ true → Passed text behind
-  passed_blank blank = passed_more (c ∷ []) p is (blank_skips c blank)
+pub comment_past : (t : List ℕ) (at n : ℕ) → at ≤ n → Skips gap (take at t) comment
+    → Skips comment (between at n t) gap → Skips gap (take n t) gap
+comment_past t at n l p q = skips_then gap comment gap (take n t) (take at t) (between at n t)
+    (take-between t at n l) p q
 
-  pub passed_comment : {left : List ℕ} → is_blank c ≡ false → c ≡ 35 → CommentEnds behind left → Passed text left
-  passed_comment {left} other hash e =
-      let front = take (comment_len behind + 1) behind in
-      let whole : behind ≡ front ++ left =
-      sym (take-append-drop (comment_len behind + 1) behind) ∙ ap (λ s. front ++ s) (sym e.behind) in
-      passed_more (c ∷ front) p (is ∙ ap (λ s. c ∷ s) whole)
-      (skips_append gap comment gap (c ∷ []) front (comment_begins c other (eq-eqb c 35 hash)) e.skips)
+-- the end of a text with no token
+pub skipped_all : (t : List ℕ) (at : ℕ) → length t ≤ at → Skips gap (take at t) gap → tokens gap t ≡ []
+skipped_all t at h p = sym (ap (tokens gap) (take_all at t h)) ∙ skipped_none gap gap (take at t) p
+
+pub comment_last : (t : List ℕ) (at : ℕ) → Skips gap (take at t) comment → tokens comment (drop at t) ≡ []
+    → tokens gap t ≡ []
+comment_last t at p e = sym (ap (tokens gap) (take-append-drop at t)) ∙ (p (drop at t) ∙ e)

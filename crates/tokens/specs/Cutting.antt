@@ -1,6 +1,6 @@
 -- What a token is spelled as, and what it is to cut a text at its first token.
-use Rattle.std.specs.Prelude.{◌≡◌, ℕ, ◌+◌, ◌<◌, Bool, true, false, not, List, [], ◌∷◌, ◌++◌, length, take, drop, Some, None, codes, Option, ◌==◌, nat_eq, slice_index}
-use Rattle.std.specs.List.{prefix_len}
+use Rattle.std.specs.Prelude.{◌≡◌, ℕ, ◌+◌, ◌<◌, ◌≤◌, Bool, true, false, not, List, [], ◌∷◌, ◌++◌, length, take, drop, Some, None, codes, Option, ◌==◌, nat_eq, slice_index}
+use Rattle.std.specs.List.{between, prefix_len}
 use Rattle.meaning.specs.Basics.{Name}
 use Rattle.meaning.specs.Grammar.{all_letters}
 use Rattle.meaning.specs.Tokens.{is_letter, is_blank, joins, Lexing, gap, comment, tokens}
@@ -47,20 +47,16 @@ Skips m skipped n = (rest : List ℕ) → tokens m (skipped ++ rest) ≡ tokens 
 abbrev pub stays_comment : ℕ → Bool
 stays_comment c = not (c == 10)
 
--- how many bytes of a text stand before its first line feed
-abbrev pub comment_len : List ℕ → ℕ
-comment_len text = prefix_len stays_comment text
+-- behind the first line feed, which ends the comment in which `from` stands
+pub record CommentEnds (text : List ℕ) (from to : ℕ) : Type 0 where
+  pub skips : Skips comment (between from to text) gap
+  pub first : to ≡ from + prefix_len stays_comment (drop from text) + 1
+  pub within : to ≤ length text
 
--- the first line feed ends the comment in which the text begins, and the rest follows it
-pub record CommentEnds (text rest : List ℕ) : Type 0 where
-  pub skips : Skips comment (take (comment_len text + 1) text) gap
-  pub behind : rest ≡ drop (comment_len text + 1) text
-  pub within : comment_len text < length text
-
--- no line feed ends the comment in which the text begins, so no token follows
-pub record CommentOpen (text : List ℕ) : Type 0 where
-  pub endless : comment_len text ≡ length text
-  pub none : tokens comment text ≡ []
+-- no line feed ends the comment in which `from` stands, so no token follows
+pub record CommentOpen (text : List ℕ) (from : ℕ) : Type 0 where
+  pub endless : from + prefix_len stays_comment (drop from text) ≡ length text
+  pub none : tokens comment (drop from text) ≡ []
 
 -- where the first token of a text begins
 pub record Starts (text : List ℕ) (at : ℕ) : Type 0 where

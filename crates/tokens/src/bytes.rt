@@ -19,7 +19,8 @@ pub fn is_letter(byte: u8) -> bool
 pub fn is_blank(byte: u8) -> bool
     ensures { result ≡ is_blank byte }
 {
-    matches!(byte, b' ' | b'\n' | b'\r' | b'\t')
+    // No `matches!`, which is compiled to three jumps where this is one test of bits.
+    byte == b' ' || byte == b'\n' || byte == b'\r' || byte == b'\t'
 }
 
 /// The sign that two bytes make, if they make one.

@@ -1,9 +1,10 @@
-use Rattle.std.proofs.Common.{length}
-use Rattle.tokens.proofs.Skipping.{Passed}
+use Rattle.std.proofs.Common.{◌-◌, ◌≤◌, length, take}
+use Rattle.meaning.specs.Tokens.{gap}
+use Rattle.tokens.specs.Cutting.{Skips}
 use Rattle.tokens.proofs.next.token_start.Given as goal
 
-abbrev pub invariant-loop-byte : goal.invariant-loop-byte
-invariant-loop-byte l = Passed l.text l.rest
+abbrev pub invariant-loop-at : goal.invariant-loop-at
+invariant-loop-at l = (l.at ≤ length l.text) × Skips gap (take l.at l.text) gap
 
-abbrev pub decreases-loop-byte : goal.decreases-loop-byte
-decreases-loop-byte l = length l.rest
+abbrev pub decreases-loop-at : goal.decreases-loop-at
+decreases-loop-at l = length l.text - l.at
