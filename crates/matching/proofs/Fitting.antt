@@ -206,9 +206,10 @@ two_nodes {m₀} {depth} {done} {v} {x} k s h =
     }
 
 -- a value's edge has no more nodes than there are cells in use
-pub misfit_edge : {code : List ℕ} {m₀ m : Store} {depth done : ℕ} {p₀ v₀ e₀ p v e : Slot} → m₀.used < done
+pub misfit_edge : {code : List ℕ} {m₀ m : Store} {depth done : ℕ} {p₀ v₀ e₀ p v e x : Slot} → PatternIs p (Node x)
+    → x.kind ≡ v.kind → done ≡ m₀.used
     → Fitting code m₀ m depth p₀ v₀ e₀ p v e done → FitTo code m₀ m depth p₀ v₀ e₀ None
-misfit_edge z f = record { to = λ a b c d. absurd (omega (arith, (f.hand a b c d).short)) }
+misfit_edge k s z f = record { to = λ a b c d. absurd (omega (arith, z, (two_nodes k s (f.hand a b c d)).short)) }
 
 pub misfit_deep : {code : List ℕ} {m₀ m : Store} {depth done : ℕ} {p₀ v₀ e₀ p v e x : Slot} → PatternIs p (Node x)
     → x.kind ≡ v.kind → depth ≡ 0

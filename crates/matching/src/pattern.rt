@@ -50,15 +50,16 @@ fn fits_within(
     let mut pattern = pattern;
     let mut value = value;
     let mut env = env;
-    // A value's edge is no longer than the cells in use, and no pattern of a program nests deeper.
-    'parts: for _ in 0..=heap.used {
+    let edge = heap.used;
+    'parts: for step in 0..=edge {
         let node = match Pattern::from(pattern) {
             Pattern::Any => return Ok(Some(env)),
             Pattern::Bind => return Ok(Some(heap.put(VALUES, value, env)?)),
             Pattern::Leaf(leaf) => return Ok((leaf == value).then_some(env)),
             Pattern::Node(node) => node,
         };
-        if node.kind != value.kind || depth == 0 {
+        // A value's edge is no longer than the cells in use, and no pattern of a program nests deeper.
+        if node.kind != value.kind || depth == 0 || step == edge {
             return Ok(None);
         }
         let parts = code.both(node);

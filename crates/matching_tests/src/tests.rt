@@ -3,7 +3,7 @@
 use code::{BIND, CLAUSES};
 use matching::{Chosen, Clauses, Mailbox, NO_MESSAGES, Taken, fits};
 use std::test::Fail;
-use store::{Cells, Full, Heap, Slot};
+use store::{Cells, Full, Heap, Place, Slot};
 use values::{NUMBER, PAIR};
 
 /// The kind of a clause, which no decoder asks for.
@@ -12,6 +12,13 @@ const CLAUSE: u32 = 28;
 /// A pattern that is a name.
 const NAME: Slot = Slot {
     kind: BIND,
+    low: 0,
+    high: 0,
+};
+
+/// A pattern that is anything, without a name.
+const ANYTHING: Slot = Slot {
+    kind: 6,
     low: 0,
     high: 0,
 };
@@ -110,6 +117,48 @@ fn the_last_name_is_bound_first(rt: HostRuntime) -> Result<(), Fail> {
     assert_eq!(rt; heap.left(env), number(2));
     assert_eq!(rt; heap.left(heap.right(env)), number(1));
     assert_eq!(rt; heap.used, 3, "a cell for each name");
+    Ok(())
+}
+
+#[test]
+fn an_edge_is_followed_no_further_than_cells_are_in_use(rt: HostRuntime) -> Result<(), Fail> {
+    let mut code_words = [0; 732];
+    let mut words = [0; 360];
+    let mut code = Heap {
+        words: &mut code_words,
+        used: 0,
+    };
+    let one = code.put(PAIR, NAME, ANYTHING)?;
+    // As many nodes on the edge as cells will be in use, and then one whose left part has 2^60 leaves.
+    let mut part = ANYTHING;
+    for _ in 0..60 {
+        part = code.put(PAIR, part, part)?;
+    }
+    let mut edge = code.put(PAIR, part, ANYTHING)?;
+    for _ in 0..60 {
+        edge = code.put(PAIR, ANYTHING, edge)?;
+    }
+    // A node whose cell is not in use, and then one that refers to itself: no program makes either.
+    let value = Place(0).slot(PAIR);
+    let mut empty = Heap {
+        words: &mut [],
+        used: 0,
+    };
+    assert_eq!(rt;
+        fits(&code_words, &mut empty, one, value, NO_MESSAGES)?,
+        None
+    );
+    let mut heap = Heap {
+        words: &mut words,
+        used: 0,
+    };
+    for _ in 0..60 {
+        heap.put(PAIR, value, value)?;
+    }
+    assert_eq!(rt;
+        fits(&code_words, &mut heap, edge, value, NO_MESSAGES)?,
+        None
+    );
     Ok(())
 }
 

@@ -1,8 +1,8 @@
-use Rattle.std.proofs.Common.{rules, sym, arith}
+use Rattle.std.proofs.Common.{rules, sym}
 use Rattle.store.proofs.Growth.{grows_none, grows_on}
 use Rattle.matching.proofs.Fitting.{fitting_starts, fits_any, fits_leaf, fits_bind, lacks_bind, misfit_kind, misfit_edge, misfit_deep, misfit_left, lacks_left, found_is, fitting_goes_on}
 use Rattle.matching.proofs.pattern.+fits_within.Goals as goal
-use Rattle.matching.proofs.pattern.+fits_within.Goals.{then-node-value-via-then-node-value, then-node-value-via-else-node-value+then-depth-eq0}
+use Rattle.matching.proofs.pattern.+fits_within.Goals.{then-node-value-via-then-node-value, then-node-value-via-else-node-value+then-depth-eq0, then-node-value-via-else-node-value+else-depth-eq0+then-step-edge}
 
 pub parts-init : goal.parts-init
 parts-init t c = (grows_none, fitting_starts)
@@ -30,6 +30,8 @@ returns-then-node-value-clause-cases t c = elim c.then-node-value.branch [
       misfit_kind c.in-Node.ensures w.if-node-value.true c.parts.invariant.1
   | then-node-value-via-else-node-value+then-depth-eq0 w ↦
       misfit_deep c.in-Node.ensures w.if-node-value.false w.if-depth-eq0.true c.parts.invariant.1
+  | then-node-value-via-else-node-value+else-depth-eq0+then-step-edge w ↦
+      misfit_edge c.in-Node.ensures w.if-node-value.false w.if-step-edge.true c.parts.invariant.1
 ]
 
 pub returns-in_err-bound-clause-cases : goal.returns-in_err-bound-clause-cases
@@ -51,11 +53,3 @@ parts-preserved t c =
           c.both-parts.ensures.right c.both-values.ensures.left
           c.both-values.ensures.right p.grows (found_is c.in-Some.is p.cases) c.parts.invariant.1,
     )
-
-pub returns-in-Some-clause-cases : goal.returns-in-Some-clause-cases
-returns-in-Some-clause-cases t c =
-    let p = c.in_ok-bound.ensures in
-    misfit_edge (omega arith)
-    (fitting_goes_on c.in-Node.ensures c.if-node-value.false c.both-parts.ensures.left
-    c.both-parts.ensures.right c.both-values.ensures.left
-    c.both-values.ensures.right p.grows (found_is c.in-Some.is p.cases) c.parts.invariant.1)

@@ -9,4 +9,4 @@ abbrev pub invariant-parts : goal.invariant-parts
 invariant-parts l =
     Grows (stored l.initial.heap) (stored l.heap)
     × Fitting l.code (stored l.initial.heap) (stored l.heap) l.depth l.initial.pattern l.initial.value
-    l.initial.env l.pattern l.value l.env l.counter
+    l.initial.env l.pattern l.value l.env l.step
