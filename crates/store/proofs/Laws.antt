@@ -1,7 +1,8 @@
 -- The laws of the store: all that other crates use of it, in the order in which a reader needs them.
 -- A slot of a store denotes a tree (`Den`). To read goes down the tree, to make a cell puts two trees together (`Put`),
 -- and nothing that was denoted is lost (`Kept`); places and words never show.
-use Rattle.std.proofs.Common.{◌≡◌, ℕ, ◌+◌, ◌<◌, ◌≤◌, true, ◌&&◌, eqb, List, [], ◌∷◌, ◌++◌, length, sym, refl, ap, ◌∙◌, subst, arith}
+use Rattle.std.proofs.Common.{◌≡◌, ℕ, ◌+◌, ◌*◌, ◌<◌, ◌≤◌, true, ◌&&◌, eqb, List, [], ◌∷◌, ◌++◌, length, take, sym, refl, ap, ◌∙◌, subst, arith}
+use Rattle.std.proofs.lemmas.List.{get_or_append_left, get_or-take}
 use Rattle.std.proofs.lemmas.Bool.{and_parts, eq-eqb, eqb-true, false≢true}
 use Rattle.store.specs.Heap.{Store, store_of, left_of, right_of, Den, Kept, Slots}
 use Rattle.store.specs.Slots.{slot_at}
@@ -9,7 +10,7 @@ use Rattle.store.specs.Tree.{Tree, leaf, node, spine, same_tree}
 use Rattle.store.specs.declared.slot.Slot.{Slot}
 use Rattle.store.proofs.Denoting.{denotes_kept, denotes_one}
 use Rattle.store.proofs.Spines.{denotes_spine, denotes_within}
-use Rattle.store.proofs.Words.{slot_parts}
+use Rattle.store.proofs.Words.{slot_parts, slot_same}
 
 -- A slot of a kind below 16 denotes the leaf of its own words, in every store.
 pub leaf_stands : {m : Store} (k l h : ℕ) → k < 16 → Den m (record { kind = k; low = l; high = h }) (leaf k l h)
@@ -131,6 +132,20 @@ same_tree-same (node k a b) (node k' c d) e =
     let r' : a ≡ c = same_tree-same a c q.0 in
     let r'' : b ≡ d = same_tree-same b d q.1 in
     cc
+
+-- A slot of a part of some words that begins where they do is theirs, ..
+pub slot_take : (n : ℕ) (words : List ℕ) (j : ℕ) → 3 * j + 3 ≤ n → slot_at (take n words) j ≡ slot_at words j
+slot_take n words j h =
+    slot_same words (take n words) j
+    (get_or-take n words (3 * j) 0 (omega arith)) (get_or-take n words (3 * j + 1) 0 (omega arith))
+    (get_or-take n words (3 * j + 2) 0 (omega arith))
+
+-- .. and so is one of words that others follow.
+pub slot_append : (words more : List ℕ) (j : ℕ) → 3 * j + 3 ≤ length words → slot_at (words ++ more) j ≡ slot_at words j
+slot_append words more j h =
+    slot_same words (words ++ more) j
+    (get_or_append_left words more 0 (3 * j) (omega arith)) (get_or_append_left words more 0 (3 * j + 1) (omega arith))
+    (get_or_append_left words more 0 (3 * j + 2) (omega arith))
 
 -- Slots that did not change denote what they did, ..
 pub slots_same : (m : Store) (words words' : List ℕ) (j : ℕ) (ts : List Tree)
