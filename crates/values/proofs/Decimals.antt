@@ -34,17 +34,18 @@ rest_signed k i sign xs e low high =
     rest_of k (i - 1) (set xs (i - 1) sign) (length-set xs (i - 1) sign ∙ e) ∙ (drop-set xs (i - 1) sign (omega arith)
     ∙ ap (λ n. sign ∷ drop n xs) (omega arith))
 
--- the digits of n at the end of a buffer, ..
-pub number_spelled : (old new : List ℕ) (i n : ℕ) → n < 2 ^ 64 → length old ≡ 22 → drop i new ≡ spelled n ++ drop 22 old
-    → drop i new ≡ decimal (pos n)
-number_spelled old new i n h e w =
-    w ∙ (ap (λ t. spelled n ++ t) (drop_of_length-le old {i = 22} (omega arith)) ∙ (append-nil (spelled n) ∙ sym (decimal_is n h)))
+-- the digits of a number that is n at the end of a buffer, ..
+pub number_spelled : (old new : List ℕ) (i n : ℕ) {m : ℕ} → n < 2 ^ 64 → length old ≡ 22
+    → drop i new ≡ spelled m ++ drop 22 old → m ≡ n → drop i new ≡ decimal (pos n)
+number_spelled old new i n h e w is =
+    w ∙ ap (λ k. spelled k ++ drop 22 old) is ∙ (ap (λ t. spelled n ++ t) (drop_of_length-le old {i = 22} (omega arith))
+    ∙ (append-nil (spelled n) ∙ sym (decimal_is n h)))
 
 -- .. and before a sign there
-pub worker_spelled : (old new : List ℕ) (i n : ℕ) → n < 2 ^ 64 → length old ≡ 22 →
-    drop i new ≡ spelled n ++ drop 21 (set old 21 62) → drop i new ≡ decimal (pos n) ++ (62 ∷ [])
-worker_spelled old new i n h e w =
-    w ∙ (ap (λ t. spelled n ++ t) (drop-set old 21 62 (omega arith)
+pub worker_spelled : (old new : List ℕ) (i n : ℕ) {m : ℕ} → n < 2 ^ 64 → length old ≡ 22
+    → drop i new ≡ spelled m ++ drop 21 (set old 21 62) → m ≡ n → drop i new ≡ decimal (pos n) ++ (62 ∷ [])
+worker_spelled old new i n h e w is =
+    w ∙ ap (λ k. spelled k ++ drop 21 (set old 21 62)) is ∙ (ap (λ t. spelled n ++ t) (drop-set old 21 62 (omega arith)
     ∙ ap (λ t. 62 ∷ t) (drop_of_length-le old {i = 22} (omega arith))) ∙ ap (λ t. t ++ (62 ∷ [])) (sym (decimal_is n h)))
 
 -- the first bytes of a buffer that were set

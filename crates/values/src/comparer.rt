@@ -17,5 +17,6 @@ pub fn same_value(
         (λ answer. SameValue words.now a b answer)
         (λ _. LargeValue words.now a b scratch.old budget) }
 {
-    words.equal(a, b, scratch, budget)
+    let same = words.equal(a, b, scratch, budget)?;
+    Ok(same)
 }

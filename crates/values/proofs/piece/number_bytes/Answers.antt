@@ -21,7 +21,7 @@ returns-then-n-lt0 c =
     (omega (arith, length-decimal-le 20, c.write_digits-start.ensures.start))
     (omega (arith, c.write_digits-start.ensures.start))
     ∙ (ap (λ t. 45 ∷ t) (number_spelled c.args.buffer.now c.write_digits-start.new.buf c.write_digits-start.result
-    c.unsigned_abs.result (omega arith) c.told-buffer c.write_digits-start.ensures.written)
+    c.unsigned_abs.result (omega arith) c.told-buffer c.write_digits-start.ensures.written (omega arith))
     ∙ decimal_negative c.args.n c.unsigned_abs.result less size)
 
 pub returns : goal.returns
@@ -32,5 +32,5 @@ returns c =
     rest_of 22 c.write_digits-start.result c.write_digits-start.new.buf
     (c.write_digits-start.auto.buf ∙ c.told-buffer)
     ∙ (number_spelled c.args.buffer.now c.write_digits-start.new.buf c.write_digits-start.result
-    c.unsigned_abs.result (omega arith) c.told-buffer c.write_digits-start.ensures.written
+    c.unsigned_abs.result (omega arith) c.told-buffer c.write_digits-start.ensures.written (omega arith)
     ∙ decimal_positive c.args.n c.unsigned_abs.result (λ less. omega (arith, ints, c.if-n-lt0.false)) size)

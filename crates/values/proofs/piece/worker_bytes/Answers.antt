@@ -16,4 +16,4 @@ returns c =
     (omega (arith, length-decimal-le 20, c.write_digits-sign.ensures.start))
     (omega (arith, c.write_digits-sign.ensures.start))
     ∙ ap (λ t. 60 ∷ t) (worker_spelled c.args.buffer.now c.write_digits-sign.new.buf c.write_digits-sign.result
-    c.args.n c.ranges.n.fits c.told-buffer c.write_digits-sign.ensures.written)
+    c.args.n c.ranges.n.fits c.told-buffer c.write_digits-sign.ensures.written (omega arith))

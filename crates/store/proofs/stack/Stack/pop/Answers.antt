@@ -6,9 +6,8 @@ use Rattle.store.proofs.stack.Stack.pop.Goals as goal
 
 pub returns-in_err-below-clause-cases : goal.returns-in_err-below-clause-cases
 returns-in_err-below-clause-cases c =
-    let stack = c.args.self.now in
-    let none = none_below stack.words.now stack.depth (omega (arith, c.in_err-below.ensures)) in
-    rw c.from_residual.ensures (none, none)
+    let empty = c.in_err-below.ensures in
+    rw c.from_residual.ensures (none_below _ _ (omega (arith, empty)), none_below _ _ (omega (arith, empty)))
 
 pub returns-clause-cases : goal.returns-clause-cases
 returns-clause-cases c =
