@@ -6,6 +6,7 @@ use Rattle.store.proofs.stack.Stack.pop.Goals as goal
 
 pub returns-in_err-below-clause-cases : goal.returns-in_err-below-clause-cases
 returns-in_err-below-clause-cases c =
+    -- of the stack before and of the one that is left, each by its own depth
     let empty = c.in_err-below.ensures in
     rw c.from_residual.ensures (none_below _ _ (omega (arith, empty)), none_below _ _ (omega (arith, empty)))
 
